@@ -32,7 +32,8 @@ module _ (corners : List Point) (v w : ℕ) (ms : List ℕ) (u : ℕ) (piece : I
   none_in : (p : Point) → HasPoint (piece_points corners ms) p → ¬ InTriangle (vertex corners u) (vertex corners v) (vertex corners w) p
   none_in =
       let at = λ (i : ℕ). vertex corners i in
-      elim (farthest_or_none (InTriangle (at u) (at v) (at w)) (λ p. in_or_not (at u) (at v) (at w) (whole p)) (height (at u) (at w)) (piece_points corners ms)) [
+      elim (farthest_or_none (InTriangle (at u) (at v) (at w)) (λ p. in_or_not (at u) (at v) (at w) (whole p)) (height (at u) (at w))
+      (piece_points corners ms)) [
         | inl none ↦ none
         | inr far ↦
             let points = points_are corners v w ms u in
@@ -59,7 +60,8 @@ module _ (corners : List Point) (xs : List ℕ) (corner : Corner) (at : IsCorner
   none_is_best piece least turn_left =
       let distinct = piece_distinct corners xs piece in
       let some = piece.polygon.some in
-      let empty = by_ends (λ ys. IsPiece corners ys → IsLeastBelow corners ys (length ys) 0 → TurnsLeftInCorner corners ys → (k : ℕ) → ¬ IsPlaceInCorner corners ys k)
+      let empty =
+      by_ends (λ ys. IsPiece corners ys → IsLeastBelow corners ys (length ys) 0 → TurnsLeftInCorner corners ys → (k : ℕ) → ¬ IsPlaceInCorner corners ys k)
       (none_at corners) xs some piece least
       (λ k inside.
       let in_k = number_in_corner corners xs some distinct k inside in

@@ -1,10 +1,8 @@
 -- What is left of a piece read from another vertex on is left of the piece.
-use Rattle.std.proofs.Common.{◌≡◌, sym, ap, subst, ◌∙◌, ℕ, List, ◌++◌, length, get_or, take, drop, Result, Ok, Err, arith}
+use Rattle.std.proofs.Common.{◌≡◌, sym, ap, subst, ◌∙◌, ℕ, List, ◌++◌, length, get_or, take, drop, arith}
 use Rattle.std.proofs.lemmas.List.{length-append, length-drop, take-append-drop}
-use Rattle.std.specs.Prelude.{IfOk}
 use Rattle.plane.specs.Point.{Point}
 use Rattle.meshes.proofs.Joins.{fits_rotated}
-use Rattle.exact_plane.specs.declared.memory.Memory.{Memory}
 use Rattle.cut_tri.proofs.Members.{is_piece_rotated}
 use Rattle.cut_tri.proofs.Orders.{order_turned}
 use Rattle.cut_tri.proofs.Readings.{cut_of_rotated, first_turned}
@@ -32,11 +30,6 @@ module _ (corners : List Point) (xs ys : List ℕ) where
     cut = λ ts us is_cut is_cut_too. cut_of_rotated corners xs ys _ (are.cut ts us is_cut is_cut_too);
   }
 
-  -- if there is memory
-  result_rotated : (r : Result Remains Memory) → IfOk r (IsCutOf corners (ys ++ xs)) → IfOk r (IsCutOf corners (xs ++ ys))
-  result_rotated (Ok remains) h = cut_rotated remains h
-  result_rotated (Err e) h = h
-
 -- it is as long
 pub as_long : (xs : List ℕ) (k : ℕ) → length (drop k xs ++ take k xs) ≡ length xs
 as_long xs k = omega (arith, length-append (drop k xs) (take k xs), length-append (take k xs) (drop k xs), ap length (take-append-drop k xs))
@@ -51,9 +44,8 @@ module _ (corners : List Point) (xs : List ℕ) (k : ℕ) (is : IsPiece corners 
   piece_from = is_piece_rotated corners (take k xs) (drop k xs) two_parts
 
   -- what is left of that is left of the piece
-  pub result_from : (r : Result Remains Memory) → IfOk r (IsCutOf corners (drop k xs ++ take k xs)) → IfOk r (IsCutOf corners xs)
-  result_from r h =
-      subst (λ ys. IfOk r (IsCutOf corners ys)) (take-append-drop k xs) (result_rotated corners (take k xs) (drop k xs) r h)
+  pub cut_from : (left : Remains) → IsCutOf corners (drop k xs ++ take k xs) left → IsCutOf corners xs left
+  cut_from left is = subst (λ ys. IsCutOf corners ys left) (take-append-drop k xs) (cut_rotated corners (take k xs) (drop k xs) left is)
 
   module _ (ys os : List ℕ) (turned : ys ≡ drop k xs ++ take k xs) (order : IsOrderOf corners xs os) (least : IsLeastPlace xs os k) where
     -- with the same order,

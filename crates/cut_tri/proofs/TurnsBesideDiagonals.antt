@@ -76,8 +76,8 @@ module _ (ring : List Point) (simple : IsSimple ring) (three : 3 ≤ length ring
   ]
 
   -- and what the ring is near on the way from it is right of neither edge
-  right_of_none : IsCounterclockwise ring → (u v w : Point) (b : IsBetween ring u v w) → IsLeft (whole u) (whole v) (whole w) → (z : Triple) → IsPoint z
-      → ((n : ℕ) → IsIn ring (toward (whole v) z n)) → (¬ IsRight (whole u) (whole v) z) × (¬ IsRight (whole v) (whole w) z)
+  right_of_none : IsCounterclockwise ring → (u v w : Point) (b : IsBetween ring u v w) → IsLeft (whole u) (whole v) (whole w)
+      → (z : Triple) → IsPoint z → ((n : ℕ) → IsIn ring (toward (whole v) z n)) → (¬ IsRight (whole u) (whole v) z) × (¬ IsRight (whole v) (whole w) z)
   right_of_none runs u v w b left z at_z near =
       let none = convex_vertex ring simple three runs b.number b.in_ring (not_reflex runs u v w b left) z at_z
       (λ n. rw b.is (near n)) in
@@ -91,5 +91,6 @@ module _ (ring : List Point) (simple : IsSimple ring) (three : 3 ≤ length ring
       let at_v = whole_is_point v in
       let at_z = whole_is_point z in
       let none = right_of_none runs u v w (between u v w first second) left (whole z) at_z
-      (λ n. diagonal.inside (toward (whole v) (whole z) n) (toward_is_point (whole v) (whole z) at_v at_z n) (toward_on (whole v) (whole z) at_v at_z n)) in
+      (λ n. diagonal.inside (toward (whole v) (whole z) n) (toward_is_point (whole v) (whole z) at_v at_z n)
+      (toward_on (whole v) (whole z) at_v at_z n)) in
       (at_least_unless none.0, at_least_unless none.1)

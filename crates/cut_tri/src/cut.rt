@@ -36,7 +36,7 @@ pub(crate) enum Remains {
 pub(crate) fn cut<L: Ledger>(
     alloc: Global,
     ring: &Ring,
-    mut piece: Piece,
+    piece: Piece,
     ranks: &[u32],
     clusters: &mut Option<Clusters>,
     steps: &mut Steps<L>,
@@ -50,10 +50,36 @@ pub(crate) fn cut<L: Ledger>(
     ensures triangle { length piece.boundary ≡ 3 → steps.new ≡ steps.old }
     ensures steps { steps.new ≤ steps.old + (515 * length piece.boundary + 371 * length ring.now.corners + 910) }
 {
+    let mut read = read_from_least(alloc, ring, piece)?;
+    let tri = corner_of(&read.boundary);
+    if read.boundary.len() == 3 {
+        return Ok(Remains::Triangle(tri));
+    }
+    match farthest(alloc, ring, &read, tri, clusters, steps) {
+        None => {
+            read.boundary.drop_first();
+            let _ = read.order.pop();
+            Ok(Remains::Ear(tri, read))
+        }
+        Some(number) => {
+            let (first, second) = parts(alloc, ring, read, number, ranks)?;
+            Ok(Remains::Parts(first, second))
+        }
+    }
+}
+
+// Reads a piece from its lexicographically least vertex on, and cleans its order.
+fn read_from_least(alloc: Global, ring: &Ring, mut piece: Piece) -> Result<Piece, Memory>
+    requires { IsPieceInOrder ring.now.corners piece }
+    ensures ordered { IfOk result (IsOrderedFromLeast ring.now.corners) }
+    ensures size { IfOk result (λ read. length read.boundary ≡ length piece.boundary) }
+    ensures cut { IfOk result (λ read. (left : Remains) → IsCutOf ring.now.corners read.boundary left
+        → IsCutOf ring.now.corners piece.boundary left) }
+{
     clean(alloc, ring, &mut piece)?;
     let least = least_place(ring, &piece);
     piece.boundary.turn(least)?;
-    cut_at_first(alloc, ring, piece, ranks, clusters, steps)
+    Ok(piece)
 }
 
 // Takes the numbers of no vertices at the end of a piece's order away, and all where they are many and more than a quarter.
@@ -79,41 +105,6 @@ fn least_place(ring: &Ring, piece: &Piece) -> usize
     ensures { IsLeastPlace piece.now.boundary piece.now.order.items result }
 {
     piece.boundary.place_of(piece.order[piece.order.len() - 1])
-}
-
-// Cuts a piece at its first vertex.
-fn cut_at_first<L: Ledger>(
-    alloc: Global,
-    ring: &Ring,
-    mut piece: Piece,
-    ranks: &[u32],
-    clusters: &mut Option<Clusters>,
-    steps: &mut Steps<L>,
-) -> Result<Remains, Memory>
-    requires ordered { IsOrderedFromLeast ring.now.corners piece }
-    requires ranks { AreLexicalRanks ring.now.corners ranks.now }
-    requires clusters { IfSome clusters.old (AreClusters ring.now.corners) }
-    ensures cut { IfOk result (IsCutOf ring.now.corners piece.boundary) }
-    ensures ordered { IfOk result (AreOrdered ring.now.corners) }
-    ensures clusters { IfSome clusters.new (AreClusters ring.now.corners) }
-    ensures triangle { length piece.boundary ≡ 3 → steps.new ≡ steps.old }
-    ensures steps { steps.new ≤ steps.old + (515 * length piece.boundary + 371 * length ring.now.corners + 910) }
-{
-    let tri = corner_of(&piece.boundary);
-    if piece.boundary.len() == 3 {
-        return Ok(Remains::Triangle(tri));
-    }
-    match farthest(alloc, ring, &piece, tri, clusters, steps) {
-        None => {
-            piece.boundary.drop_first();
-            let _ = piece.order.pop();
-            Ok(Remains::Ear(tri, piece))
-        }
-        Some(number) => {
-            let (first, second) = parts(alloc, ring, piece, number, ranks)?;
-            Ok(Remains::Parts(first, second))
-        }
-    }
 }
 
 // The triangle at the first vertex.

@@ -1,37 +1,38 @@
-use Rattle.std.proofs.Common.{◌∙◌, ap, length, subst, arith}
-use Rattle.std.specs.Prelude.{IfOk}
-use Rattle.cut_tri.proofs.RotatedCuts.{as_long, least_from, order_from, result_from}
+use Rattle.std.proofs.Common.{sym, ap, subst, ◌∙◌, ◌-◌, List, ℕ, take}
+use Rattle.cut_tri.proofs.EarCuts.{ear_cut, triangle_cut}
+use Rattle.cut_tri.proofs.Orders.{least_below}
+use Rattle.cut_tri.proofs.Parts.{rest_ordered}
+use Rattle.cut_tri.specs.Cutting.{IsEarCut}
+use Rattle.cut_tri.specs.declared.cut.Remains.TheVariants.{Ear, Parts, Triangle}
 use Rattle.cut_tri.proofs.cut.cut.Goals as goal
-use Rattle.cut_tri.specs.Cutting.{IsCutOf}
 
-pub cut_at_first-requires-clause-ordered : goal.cut_at_first-requires-clause-ordered
-cut_at_first-requires-clause-ordered g c =
+pub returns-then-len-eq3-clause-cut : goal.returns-then-len-eq3-clause-cut
+returns-then-len-eq3-clause-cut g c =
     let corners = c.args.ring.now.corners in
-    let xs = c.clean.new.piece.boundary in
-    let os = c.clean.new.piece.order.items in
-    let ordered = c.in_ok-clean.ensures.ordered in
-    let k = c.least_place-least.result in
-    let ys = c.turn.new.self in
-    let turned = c.in_ok-turn.ensures in
-    record {
-      ordered = order_from corners xs k ordered.0 ys os turned ordered.1 c.least_place-least.ensures;
-      least = least_from corners xs k ordered.0 ys os turned ordered.1 c.least_place-least.ensures;
-    }
+    let xs = c.in_ok-read.read.boundary in
+    let ordered = c.in_ok-read.ensures.ordered in
+    let least = least_below corners xs c.in_ok-read.read.order.items ordered.ordered.1 ordered.ordered.0.numbers 0 ordered.least in
+    c.in_ok-read.ensures.cut (Triangle c.corner_of-tri.result)
+    (rw c.corner_of-tri.ensures (triangle_cut corners xs ordered.ordered.0 least (sym c.len.ensures ∙ c.if-len-eq3.true)))
 
-pub returns-clause-cut : goal.returns-clause-cut
-returns-clause-cut g c =
+pub returns-in-None-clause-cut : goal.returns-in-None-clause-cut
+returns-in-None-clause-cut g c =
     let corners = c.args.ring.now.corners in
-    subst (λ xs. IfOk c.cut_at_first.result (IsCutOf corners xs)) c.clean.ensures.boundary
-    (result_from corners c.clean.new.piece.boundary c.least_place-least.result c.in_ok-clean.ensures.ordered.0 c.cut_at_first.result
-    (subst (λ xs. IfOk c.cut_at_first.result (IsCutOf corners xs)) c.in_ok-turn.ensures c.cut_at_first.ensures.cut))
+    let xs = c.in_ok-read.read.boundary in
+    let ordered = c.in_ok-read.ensures.ordered in
+    let least = least_below corners xs c.in_ok-read.read.order.items ordered.ordered.1 ordered.ordered.0.numbers 0 ordered.least in
+    c.in_ok-read.ensures.cut (Ear c.corner_of-tri.result (record { boundary = c.drop_first.new.self; order = c.pop.new.self }))
+    (subst (IsEarCut corners xs c.corner_of-tri.result) (sym {A = List ℕ} c.drop_first.ensures)
+    (rw c.corner_of-tri.ensures
+    (ear_cut corners xs ordered.ordered.0 least (λ e. c.if-len-eq3.false (c.len.ensures ∙ e)) (λ j h. c.in-None.ensures.none j))))
 
-pub returns-clause-steps : goal.returns-clause-steps
-returns-clause-steps g c =
-    let size = ap length c.in_ok-turn.ensures ∙ as_long c.clean.new.piece.boundary c.least_place-least.result
-    ∙ ap length c.clean.ensures.boundary in
-    omega (arith, size, c.cut_at_first.ensures.steps)
+pub returns-in_ok-first-in-Some-clause-cut : goal.returns-in_ok-first-in-Some-clause-cut
+returns-in_ok-first-in-Some-clause-cut g c =
+    c.in_ok-read.ensures.cut (Parts c.in_ok-first-in-Some.first c.in_ok-first-in-Some.second) c.in_ok-first-in-Some.ensures.parts
 
-pub returns-clause-triangle : goal.returns-clause-triangle
-returns-clause-triangle g c three =
-    c.cut_at_first.ensures.triangle (ap length c.in_ok-turn.ensures ∙ as_long c.clean.new.piece.boundary c.least_place-least.result
-    ∙ ap length c.clean.ensures.boundary ∙ three)
+pub returns-in-None-clause-ordered : goal.returns-in-None-clause-ordered
+returns-in-None-clause-ordered g c =
+    let os = c.in_ok-read.read.order.items in
+    let ordered = c.in_ok-read.ensures.ordered in
+    rest_ordered c.args.ring.now.corners c.in_ok-read.read.boundary os ordered.ordered.0 ordered.ordered.1 ordered.least
+    c.drop_first.new.self c.pop.new.self.items c.drop_first.ensures (◌∙◌ {A = List ℕ} c.pop.ensures.rest (ap (λ n. take (n - 1) os) c.in_ok-read.read.order.ok.0))
