@@ -159,10 +159,6 @@ module _ (v w : Point) (ms : List Point) (u : Point) (simple : IsSimple (v ∷ w
       (distinct_corner v w ms u (apart_of_simple whole_ring simple)).0
       (subst (HasPoint (w ∷ (ms ++ u ∷ []))) (sym is) (inr (has_left far.point ms (u ∷ []) far.has_point)))
 
-  -- the segment to it is strictly between the edges at v
-  between : IsLeft (whole u) (whole v) (whole far.point) × IsLeft (whole far.point) (whole v) (whole w)
-  between = between_edges v w ms u simple runs least far
-
   -- an edge from v goes to w,
   from_first : (x : Point) → HasEdge (edges_of whole_ring) (edge v x) → w ≡ x
   from_first x has =
@@ -192,7 +188,9 @@ module _ (v w : Point) (ms : List Point) (u : Point) (simple : IsSimple (v ∷ w
     first_turns =
         turns_kept whole_ring (v ∷ w ∷ (cs ++ far.point ∷ [])) (edge far.point v) far_differs
         (λ e has. elim (has_edge_of_first v (w ∷ cs) far.point (ds ++ u ∷ []) e has) [ inl h ↦ inl (regrouped e h) | inr is ↦ inr is ])
-        (λ turns x has. subst (λ (y : Point). IsLeft (whole far.point) (whole v) (whole y)) (from_first x has) between.1)
+        (λ turns x has.
+        let between = between_edges v w ms u simple runs least far in
+        subst (λ (y : Point). IsLeft (whole far.point) (whole v) (whole y)) (from_first x has) between.1)
         (λ turns y has. absurd (farthest_not_left v w ms u simple runs least far turns))
 
     -- and so does the second
@@ -205,4 +203,6 @@ module _ (v w : Point) (ms : List Point) (u : Point) (simple : IsSimple (v ∷ w
               (subst IsApartRing (ring_regrouped v w ms u far.point cs ds parts) (apart_of_simple whole_ring simple)) e h))
         ])
         (λ turns x has. absurd (farthest_not_left v w ms u simple runs least far turns))
-        (λ turns y has. subst (λ (x : Point). IsLeft (whole x) (whole v) (whole far.point)) (to_first y has) between.0)
+        (λ turns y has.
+        let between = between_edges v w ms u simple runs least far in
+        subst (λ (x : Point). IsLeft (whole x) (whole v) (whole far.point)) (to_first y has) between.0)
