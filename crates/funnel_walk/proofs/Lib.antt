@@ -1,6 +1,7 @@
 mod Appended
 mod Closed
 mod CrossedSides
+mod EachGoal
 mod FirstNamed
 mod ShortWalks
 mod KeptNames
