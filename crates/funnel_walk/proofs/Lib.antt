@@ -3,6 +3,8 @@ mod Closed
 mod CrossedSides
 mod EachGoal
 mod FirstNamed
+mod FoundPaths
+mod ShortPaths
 mod ShortWalks
 mod KeptNames
 mod PathNames

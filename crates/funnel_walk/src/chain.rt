@@ -86,7 +86,7 @@ fn walk_on<T: Turns, L: Ledger>(
 }
 
 // The funnel of the first diagonal. It takes 2 steps.
-fn open<T: Turns, L: Ledger>(
+pub(crate) fn open<T: Turns, L: Ledger>(
     names: &mut HeapCircularBuffer<Spot>,
     board: &T,
     mesh: &Mesh,
@@ -120,7 +120,7 @@ fn open<T: Turns, L: Ledger>(
 
 // The funnel of diagonal `i`, from that of the one before. What comes to `out` after the first `given` names is on the way to
 // its apex.
-fn cross<T: Turns, L: Ledger>(
+pub(crate) fn cross<T: Turns, L: Ledger>(
     names: &mut HeapCircularBuffer<Spot>,
     board: &T,
     mesh: &Mesh,
