@@ -4,6 +4,7 @@ use Rattle.std.proofs.Common.{◌≡◌, refl, ℕ, zero, suc, ◌+◌, ◌-◌,
 use Rattle.std.proofs.Common.{min, ◌++◌}
 use Rattle.std.proofs.lemmas.List.{append_assoc, get_or_append_left, get_or_push, length-append, map-append}
 use Rattle.std.proofs.lemmas.List.Elements.{All-append}
+use Rattle.std.specs.List.{All}
 use Rattle.plane.specs.Point.{Point}
 use Rattle.rings.specs.Chain.{IsBentChain, IsTaut, point_at}
 use Rattle.rings.specs.Ring.{origin}
@@ -25,30 +26,30 @@ right_in_front names n a (suc c) within =
     let rest = right_in_front names n (a + 1) c (omega arith) in
     λ i. here i ∷ rest i
 
-module _ (corners : List Point) where
-  -- a name alone stands for a point where it does,
-  pub one_named : (n : Spot) → IsNamed corners n → AreNamed corners (n ∷ [])
-  one_named n named zero d below = named
-  one_named n named (suc k) d below = absurd (omega (arith, below))
+module _ (P : Spot → Type 0) where
+  -- what holds of a name holds of all names of a list of it alone,
+  pub one_has : (n : Spot) → P n → All P (n ∷ [])
+  one_has n has zero d below = has
+  one_has n has (suc k) d below = absurd (omega (arith, below))
 
-  -- and one more before others
-  pub more_named : (n : Spot) (ns : List Spot) → IsNamed corners n → AreNamed corners ns → AreNamed corners (n ∷ ns)
-  more_named n ns named others = All-append (IsNamed corners) (n ∷ []) ns (one_named n named) others
+  -- and of one more before others of which it holds
+  pub more_have : (n : Spot) (ns : List Spot) → P n → All P ns → All P (n ∷ ns)
+  more_have n ns has others = All-append P (n ∷ []) ns (one_has n has) others
 
-  module _ (names : List Spot) (named : AreNamed corners names) where
-    -- so the name at a place does,
-    pub name_named : (i : ℕ) → i < length names → IsNamed corners (name_at names i)
-    name_named i below = named i _ below
+  module _ (names : List Spot) (have : All P names) where
+    -- so it holds of the name at a place,
+    pub name_has : (i : ℕ) → i < length names → P (name_at names i)
+    name_has i below = have i _ below
 
-    -- those to the left of the apex,
-    pub left_named : (a c : ℕ) → a < length names → AreNamed corners (left_names names a c)
-    left_named a zero below = λ k d within. absurd (omega (arith, within))
-    left_named a (suc c) below = more_named _ _ (name_named a below) (left_named (a - 1) c (omega arith))
+    -- of those to the left of the apex,
+    pub left_have : (a c : ℕ) → a < length names → All P (left_names names a c)
+    left_have a zero below = λ k d within. absurd (omega (arith, within))
+    left_have a (suc c) below = more_have _ _ (name_has a below) (left_have (a - 1) c (omega arith))
 
-    -- and those to the right
-    pub right_named : (a c : ℕ) → a + c ≤ length names → AreNamed corners (right_names names a c)
-    right_named a zero below = λ k d within. absurd (omega (arith, within))
-    right_named a (suc c) below = more_named _ _ (name_named a (omega arith)) (right_named (a + 1) c (omega arith))
+    -- and of those to the right
+    pub right_have : (a c : ℕ) → a + c ≤ length names → All P (right_names names a c)
+    right_have a zero below = λ k d within. absurd (omega (arith, within))
+    right_have a (suc c) below = more_have _ _ (name_has a (omega arith)) (right_have (a + 1) c (omega arith))
 
 -- the names that are given and left behind on the way to place h
 abbrev pub names_on_way : List Spot → List Spot → ℕ → ℕ → List Spot
@@ -91,8 +92,8 @@ module _ (corners : List Point) (start goal : Point) (given names : List Spot) (
   -- and each stands for one
   way_named : AreNamed corners way
   way_named = All-append (IsNamed corners) _ _
-      (All-append (IsNamed corners) given _ w.given_named (left_named corners names w.named a (a - h) (apex_below w)))
-      (right_named corners names w.named (min a h) (h - min a h) (omega arith))
+      (All-append (IsNamed corners) given _ w.given_named (left_have (IsNamed corners) names w.named a (a - h) (apex_below w)))
+      (right_have (IsNamed corners) names w.named (min a h) (h - min a h) (omega arith))
 
   -- the way begins at the start
   way_starts : name_at (way ++ name_at names h ∷ []) 0 ≡ Start
@@ -118,7 +119,7 @@ module _ (corners : List Point) (start goal : Point) (given names : List Spot) (
       (chain : IsBentChain corners (way_points ++ point_at (named_points at names) h ∷ [])) where
     -- each name stands for a point,
     pub named_at_goal : AreNamed corners (way ++ Goal ∷ [])
-    named_at_goal = All-append (IsNamed corners) way (Goal ∷ []) way_named (one_named corners Goal tt)
+    named_at_goal = All-append (IsNamed corners) way (Goal ∷ []) way_named (one_has (IsNamed corners) Goal tt)
 
     -- the first is the start,
     pub starts_at_goal : (others : List Spot) × (way ++ Goal ∷ [] ≡ Start ∷ others)
@@ -146,8 +147,8 @@ module _ (corners : List Point) (start goal : Point) (given names : List Spot) (
     pub named_to_goal : AreNamed corners (way ++ name_at names h ∷ [] ++ Goal ∷ [])
     named_to_goal = All-append (IsNamed corners) (way ++ name_at names h ∷ []) (Goal ∷ [])
         (All-append (IsNamed corners) way (name_at names h ∷ []) way_named
-        (one_named corners (name_at names h) (name_named corners names w.named h within)))
-        (one_named corners Goal tt)
+        (one_has (IsNamed corners) (name_at names h) (name_has (IsNamed corners) names w.named h within)))
+        (one_has (IsNamed corners) Goal tt)
 
     -- the points are those on the way, the last one and the goal,
     all_points_are : named_points at (way ++ name_at names h ∷ [] ++ Goal ∷ [])

@@ -19,11 +19,12 @@ use Rattle.funnels.specs.OpenFunnel.{IsOpenFunnel, left_behind, right_behind}
 use Rattle.exact_plane.specs.Names.{name_at, named_points}
 use Rattle.exact_plane.specs.Spot.{IsNamed, point_named}
 use Rattle.exact_plane.specs.declared.turns.Spot.{Spot}
-use Rattle.exact_plane.specs.declared.turns.Spot.TheVariants.{Corner, Start}
-use Rattle.funnel_walk.proofs.Closed.{left_named, more_named, one_named, right_named}
+use Rattle.exact_plane.specs.declared.turns.Spot.TheVariants.{Corner, Goal, Start}
+use Rattle.funnel_walk.proofs.Closed.{left_have, more_have, one_has, right_have}
+use Rattle.funnel_walk.proofs.EachGoal.{corner_no_goal, no_goal_alone, no_goal_before}
 use Rattle.funnel_walk.proofs.Opened.{next_diagonal, shared, diagonal_below}
-use Rattle.funnel_walk.proofs.PathNames.{apex_below, front_named, left_points, name_behind, name_in_front, named_drop, named_push}
-use Rattle.funnel_walk.proofs.PathNames.{named_take, rest_named, right_points}
+use Rattle.funnel_walk.proofs.PathNames.{apex_below, front_have, left_points, name_behind, name_in_front, named_drop, named_push}
+use Rattle.funnel_walk.proofs.PathNames.{named_take, rest_have, right_points}
 use Rattle.funnel_walk.specs.Names.{left_names, right_names}
 use Rattle.funnel_walk.specs.Walked.{IsWalked}
 
@@ -65,9 +66,13 @@ module _ (corners : List Point) (start goal : Point) (given names : List Spot) (
           (sym right_given_are)
           (subst (λ ps. IsOpenFunnel corners (named_points at given ++ left_behind (named_points at names) a (a - h)) ps (min a h) i m)
           (sym right_points_are) next);
-      given_named = All-append (IsNamed corners) given _ w.given_named (left_named corners names w.named a (a - h) (apex_below w));
-      named = All-append (IsNamed corners) (take (h + 1) names) (Corner m ∷ []) (front_named corners names (h + 1) w.named)
-          (one_named corners (Corner m) m_below);
+      given_named = All-append (IsNamed corners) given _ w.given_named (left_have (IsNamed corners) names w.named a (a - h) (apex_below w));
+      named = All-append (IsNamed corners) (take (h + 1) names) (Corner m ∷ []) (front_have (IsNamed corners) names (h + 1) w.named)
+          (one_has (IsNamed corners) (Corner m) m_below);
+      given_no_goal = All-append (λ name. name ≢ Goal) given _ w.given_no_goal
+          (left_have (λ name. name ≢ Goal) names w.no_goal a (a - h) (apex_below w));
+      no_goal = All-append (λ name. name ≢ Goal) (take (h + 1) names) (Corner m ∷ []) (front_have (λ name. name ≢ Goal) names (h + 1) w.no_goal)
+          (no_goal_alone (Corner m) (corner_no_goal m));
       starts = first_left Start given (name_at names) a (a - h) _ right_apex ∙ w.starts;
     }
 
@@ -98,8 +103,11 @@ module _ (corners : List Point) (start goal : Point) (given names : List Spot) (
           (subst (λ ps. IsOpenFunnel corners (named_points at given ++ right_behind (named_points at names) a (h - a)) ps (a - h + 1) m j)
           (sym left_points_are) next);
       given_named = All-append (IsNamed corners) given _ w.given_named
-          (right_named corners names w.named a (h - a) (omega (arith, apex_below w)));
-      named = more_named corners (Corner m) (drop h names) m_below (rest_named corners names h w.named);
+          (right_have (IsNamed corners) names w.named a (h - a) (omega (arith, apex_below w)));
+      named = more_have (IsNamed corners) (Corner m) (drop h names) m_below (rest_have (IsNamed corners) names h w.named);
+      given_no_goal = All-append (λ name. name ≢ Goal) given _ w.given_no_goal
+          (right_have (λ name. name ≢ Goal) names w.no_goal a (h - a) (omega (arith, apex_below w)));
+      no_goal = no_goal_before (Corner m) (drop h names) (corner_no_goal m) (rest_have (λ name. name ≢ Goal) names h w.no_goal);
       starts = first_right Start given (name_at names) a (h - a) _ left_apex ∙ w.starts;
     }
 

@@ -1,7 +1,10 @@
 mod Appended
 mod Closed
 mod CrossedSides
+mod EachGoal
 mod FirstNamed
+mod FoundPaths
+mod ShortPaths
 mod ShortWalks
 mod KeptNames
 mod PathNames

@@ -1,90 +1,52 @@
--- A funnel from which names on the right are taken away, one after another.
-use Rattle.std.proofs.Common.{◌≡◌, ◌≢◌, sym, ap, subst, ◌∙◌, ℕ, ◌+◌, ◌-◌, ◌<◌, ◌≤◌, min, List, [], ◌∷◌, ◌++◌, length, take, arith}
-use Rattle.std.proofs.lemmas.List.{append_assoc, length-take-le, take-take}
+-- A funnel whose right end a search leaves, one name after another.
+use Rattle.std.proofs.Common.{◌≡◌, sym, ap, subst, ◌∙◌, ℕ, ◌+◌, ◌-◌, ◌<◌, ◌≤◌, List, [], ◌∷◌, ◌++◌, length, arith}
+use Rattle.std.proofs.lemmas.List.{append_assoc}
 use Rattle.plane.specs.Point.{Point, Triple}
-use Rattle.rings.specs.Chain.{point_at}
-use Rattle.funnels.proofs.Funnels.{passed_same}
 use Rattle.funnels.specs.Funnel.{IsPassed, IsReachedFrom}
 use Rattle.exact_plane.specs.declared.turns.Spot.{Spot}
 use Rattle.exact_plane.specs.Names.{name_at, named_points}
-use Rattle.funnel_walk.proofs.PathNames.{left_more, length_named, name_in_front, point_of_name}
+use Rattle.funnel_walk.proofs.PathNames.{left_more, length_named}
 use Rattle.funnel_walk.specs.Names.{left_names}
 
--- names of a funnel are left up to a last place, with the apex at place `now`, and the names behind are after the given ones
-pub record IsNarrowedRight (at : Spot → Point) (old : List Spot) (apex : ℕ) (given : List Spot) (y : Triple) (names : List Spot)
-    (last now : ℕ) (out : List Spot) : Type 0 where
-  pub size : length names ≡ last + 1
-  pub within : last < length old
-  pub kept : names ≡ take (last + 1) old
-  pub apex_is : now ≡ min apex last
-  pub behind : out ≡ given ++ left_names old apex (apex - last)
-  pub not_passed : last + 1 < length old → ¬ IsPassed (named_points at old) apex (last + 1) y
+-- the way does not come from a place behind the last one, and the names that it leaves behind so far are after the given ones
+pub record IsSoughtRight (at : Spot → Point) (names : List Spot) (apex : ℕ) (given : List Spot) (y : Triple) (last : ℕ) (out : List Spot) : Type 0 where
+  pub within : last < length names
+  pub behind : out ≡ given ++ left_names names apex (apex - last)
+  pub not_passed : last + 1 < length names → ¬ IsPassed (named_points at names) apex (last + 1) y
 
-module _ (at : Spot → Point) (old : List Spot) (apex : ℕ) (given : List Spot) (y : Triple) where
-  module _ (names : List Spot) (last now : ℕ) (out : List Spot) (so_far : IsNarrowedRight at old apex given y names last now out) where
-    -- the names that are left are those of the whole funnel, in the same places,
-    same_name : (i : ℕ) → i ≤ last → name_at names i ≡ name_at old i
-    same_name i below = ap (λ ns. name_at ns i) so_far.kept ∙ name_in_front old (last + 1) i (omega arith)
+module _ (at : Spot → Point) (names : List Spot) (apex : ℕ) (given : List Spot) (y : Triple) (last : ℕ) (out : List Spot)
+    (so_far : IsSoughtRight at names apex given y last out) where
+  -- where the last edge is passed, the way comes from the last place
+  pub right_ends : (0 < last → IsPassed (named_points at names) apex last y) → IsReachedFrom (named_points at names) apex last y
+  right_ends passed = record {
+    within = omega (arith, so_far.within, length_named at names);
+    passed = passed;
+    not_passed = λ more. so_far.not_passed (omega (arith, more, length_named at names));
+  }
 
-    -- with the same points,
-    same_point : (i : ℕ) → i ≤ last → point_at (named_points at names) i ≡ point_at (named_points at old) i
-    same_point i below = point_of_name at names i (omega (arith, so_far.size)) ∙ ap at (same_name i below)
-        ∙ sym (point_of_name at old i (omega (arith, so_far.within)))
-
-    -- so the last edge that is left is passed
-    passed_in_whole : IsPassed (named_points at names) now last y → IsPassed (named_points at old) apex last y
-    passed_in_whole = passed_same (named_points at names) (named_points at old) now apex last last y
-        (λ h. omega (arith, so_far.apex_is)) (λ h. omega (arith, so_far.apex_is))
-        (same_point last (omega arith)) (same_point (last - 1) (omega arith))
-
-    -- as it is in the whole funnel,
-    passed_in_rest : IsPassed (named_points at old) apex last y → IsPassed (named_points at names) now last y
-    passed_in_rest = passed_same (named_points at old) (named_points at names) apex now last last y
-        (λ h. omega (arith, so_far.apex_is)) (λ h. omega (arith, so_far.apex_is))
-        (sym (same_point last (omega arith))) (sym (same_point (last - 1) (omega arith)))
-
-    -- and where it is, the way comes from the last place
-    pub right_ends : (0 < last → IsPassed (named_points at names) now last y) → IsReachedFrom (named_points at old) apex last y
-    right_ends passed = record {
-      within = omega (arith, so_far.within, length_named at old);
-      passed = λ inner. passed_in_whole (passed inner);
-      not_passed = λ more. so_far.not_passed (omega (arith, more, length_named at old));
+  module _ (inner : 0 < last) (past : ¬ IsPassed (named_points at names) apex last y) where
+    -- where it is not, the way comes from a place before,
+    one_less : (out_after : List Spot) → out_after ≡ given ++ left_names names apex (apex - (last - 1))
+        → IsSoughtRight at names apex given y (last - 1) out_after
+    one_less out_after out_is = record {
+      within = omega (arith, so_far.within);
+      behind = out_is;
+      not_passed = λ more passed. let same : last - 1 + 1 ≡ last = omega arith in
+          past (subst (λ k. IsPassed (named_points at names) apex k y) same passed);
     }
 
-    module _ (inner : 0 < last) (past : ¬ IsPassed (named_points at names) now last y) where
-      -- where it is not, the last name goes,
-      one_less : (now_after : ℕ) (out_after : List Spot) → now_after ≡ min apex (last - 1)
-          → out_after ≡ given ++ left_names old apex (apex - (last - 1))
-          → IsNarrowedRight at old apex given y (take (length names - 1) names) (last - 1) now_after out_after
-      one_less now_after out_after now_is out_is = record {
-        size = omega (arith, so_far.size, length-take-le (length names - 1) names (omega arith));
-        within = omega (arith, so_far.within);
-        kept =
-            let count : length names - 1 ≡ last - 1 + 1 = omega (arith, so_far.size) in
-            ap (λ k. take k names) count ∙ ap (λ ns. take (last - 1 + 1) ns) so_far.kept
-            ∙ take-take (last - 1 + 1) (last + 1) old (omega arith);
-        apex_is = now_is;
-        behind = out_is;
-        not_passed = λ more passed. let same : last - 1 + 1 ≡ last = omega arith in
-            past (passed_in_rest (subst (λ k. IsPassed (named_points at old) apex k y) same passed));
-      }
+    -- and up to the apex, the last name is left behind
+    pub apex_goes : last ≤ apex → IsSoughtRight at names apex given y (last - 1) (out ++ name_at names last ∷ [])
+    apex_goes is = one_less (out ++ name_at names last ∷ [])
+        (let more : apex - (last - 1) ≡ apex - last + 1 = omega arith in
+        let place : last ≡ apex - (apex - last) = omega arith in
+        ap (λ ns. ns ++ name_at names last ∷ []) so_far.behind
+        ∙ append_assoc given (left_names names apex (apex - last)) (name_at names last ∷ [])
+        ∙ ap (λ i. given ++ (left_names names apex (apex - last) ++ name_at names i ∷ [])) place
+        ∙ ap (λ ns. given ++ ns) (sym (left_more names apex (apex - last)))
+        ∙ ap (λ k. given ++ left_names names apex k) (sym more))
 
-      -- and where it was the apex, it is left behind
-      pub apex_goes : last ≡ now
-          → IsNarrowedRight at old apex given y (take (length names - 1) names) (last - 1) (now - 1) (out ++ name_at names last ∷ [])
-      apex_goes is = one_less (now - 1) (out ++ name_at names last ∷ []) (omega (arith, so_far.apex_is))
-          (let more : apex - (last - 1) ≡ apex - last + 1 = omega (arith, so_far.apex_is) in
-          let place : apex - (apex - last) ≡ last = omega (arith, so_far.apex_is) in
-          let name : name_at names last ≡ name_at old (apex - (apex - last)) =
-          same_name last (omega arith) ∙ ap (name_at old) (sym place) in
-          ap (λ ns. ns ++ name_at names last ∷ []) so_far.behind
-          ∙ append_assoc given (left_names old apex (apex - last)) (name_at names last ∷ [])
-          ∙ ap (λ n. given ++ (left_names old apex (apex - last) ++ n ∷ [])) name
-          ∙ ap (λ ns. given ++ ns) (sym (left_more old apex (apex - last)))
-          ∙ ap (λ k. given ++ left_names old apex k) (sym more))
-
-      -- where it was not, nothing is
-      pub other_goes : last ≢ now → IsNarrowedRight at old apex given y (take (length names - 1) names) (last - 1) now out
-      other_goes is = one_less now out (omega (arith, so_far.apex_is))
-          (let none : apex - last ≡ apex - (last - 1) = omega (arith, so_far.apex_is) in
-          so_far.behind ∙ ap (λ k. given ++ left_names old apex k) none)
+    -- on the right of the apex nothing is
+    pub other_goes : apex < last → IsSoughtRight at names apex given y (last - 1) out
+    other_goes is = one_less out
+        (let none : apex - last ≡ apex - (last - 1) = omega (arith, is) in so_far.behind ∙ ap (λ k. given ++ left_names names apex k) none)

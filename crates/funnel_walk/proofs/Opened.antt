@@ -20,9 +20,10 @@ use Rattle.funnels.specs.OpenFunnel.{IsOpenFunnel}
 use Rattle.exact_plane.specs.Names.{AreNamed, name_at, named_points}
 use Rattle.exact_plane.specs.Spot.{IsNamed, point_named}
 use Rattle.exact_plane.specs.declared.turns.Spot.{Spot}
-use Rattle.exact_plane.specs.declared.turns.Spot.TheVariants.{Corner, Start}
-use Rattle.funnel_walk.proofs.Closed.{more_named, one_named}
-use Rattle.funnel_walk.specs.Walked.{IsWalked}
+use Rattle.exact_plane.specs.declared.turns.Spot.TheVariants.{Corner, Goal, Start}
+use Rattle.funnel_walk.proofs.Closed.{more_have, one_has}
+use Rattle.funnel_walk.proofs.EachGoal.{corner_no_goal, no_goal_alone, no_goal_before, start_no_goal}
+use Rattle.funnel_walk.specs.Walked.{HaveNoGoal, IsWalked}
 
 pub diagonal_below : (corners : List Point) (tris : List Tri) → Fits corners tris → (sleeve : Sleeve) → IsOneOf tris sleeve
     → (i : ℕ) → i < length sleeve.diagonals
@@ -169,10 +170,17 @@ module _ (corners : List Point) (tris : List Tri) (fits : Fits corners tris) (sl
   -- names of an open funnel with the start at the apex are as far as the walk has come
   walked_of : (names : List Spot) (a : ℕ)
       → IsOpenFunnel corners [] (named_points at names) a i j
-      → AreNamed corners names → name_at names a ≡ Start
+      → AreNamed corners names → HaveNoGoal names → name_at names a ≡ Start
       → IsWalked corners start goal [] names a i j
-  walked_of names a funnel named starts =
-      record { funnel = funnel; given_named = All-nil (IsNamed corners); named = named; starts = starts }
+  walked_of names a funnel named no_goal starts =
+      record {
+        funnel = funnel;
+        given_named = All-nil (IsNamed corners);
+        named = named;
+        given_no_goal = All-nil (λ name. name ≢ Goal);
+        no_goal = no_goal;
+        starts = starts;
+      }
 
   -- a start that is neither end is the apex between them,
   pub opens_between : at Start ≢ at left → at Start ≢ at right
@@ -183,8 +191,10 @@ module _ (corners : List Point) (tris : List Tri) (fits : Fits corners tris) (sl
       walked_of (left ∷ Start ∷ right ∷ []) 1
       (subst (λ l. IsOpenFunnel corners [] (l ∷ start ∷ at right ∷ []) 1 i j) left_is
       (subst (λ r. IsOpenFunnel corners [] (vertex corners i ∷ start ∷ r ∷ []) 1 i j) right_is funnel))
-      (more_named corners left (Start ∷ right ∷ []) left_named
-      (more_named corners Start (right ∷ []) tt (one_named corners right right_named))) refl
+      (more_have (IsNamed corners) left (Start ∷ right ∷ []) left_named
+      (more_have (IsNamed corners) Start (right ∷ []) tt (one_has (IsNamed corners) right right_named)))
+      (no_goal_before left (Start ∷ right ∷ []) (corner_no_goal i)
+      (no_goal_before Start (right ∷ []) start_no_goal (no_goal_alone right (corner_no_goal j)))) refl
 
   -- one at the left end is there,
   pub opens_at_left : at Start ≡ at left
@@ -193,7 +203,8 @@ module _ (corners : List Point) (tris : List Tri) (fits : Fits corners tris) (sl
       let funnel = start_at_left corners tris fits k i j third.0 k_below side third.1 third.2 two start in_start (same ∙ sym left_is) in
       walked_of (Start ∷ right ∷ []) 0
       (subst (λ r. IsOpenFunnel corners [] (start ∷ r ∷ []) 0 i j) right_is funnel)
-      (more_named corners Start (right ∷ []) tt (one_named corners right right_named)) refl
+      (more_have (IsNamed corners) Start (right ∷ []) tt (one_has (IsNamed corners) right right_named))
+      (no_goal_before Start (right ∷ []) start_no_goal (no_goal_alone right (corner_no_goal j))) refl
 
   -- and so is one at the right end
   pub opens_at_right : at Start ≡ at right
@@ -202,7 +213,8 @@ module _ (corners : List Point) (tris : List Tri) (fits : Fits corners tris) (sl
       let funnel = start_at_right corners tris fits k i j third.0 k_below side third.1 third.2 two start in_start (same ∙ sym right_is) in
       walked_of (left ∷ Start ∷ []) 1
       (subst (λ l. IsOpenFunnel corners [] (l ∷ start ∷ []) 1 i j) left_is funnel)
-      (more_named corners left (Start ∷ []) left_named (one_named corners Start tt)) refl
+      (more_have (IsNamed corners) left (Start ∷ []) left_named (one_has (IsNamed corners) Start tt))
+      (no_goal_before left (Start ∷ []) (corner_no_goal i) (no_goal_alone Start start_no_goal)) refl
 
   -- no start is at both
   pub not_at_both : at Start ≡ at left → ¬ (at Start ≡ at right)

@@ -93,10 +93,10 @@ count_left given names a c = length-append given (left_names names a c) ∙ ap (
 pub count_right : (given names : List Spot) (a c : ℕ) → length (given ++ right_names names a c) ≡ length given + c
 count_right given names a c = length-append given (right_names names a c) ∙ ap (λ n. length given + n) (length_rightward (name_at names) a c)
 
--- where all names from the apex on will be given, there is room for two names more,
-pub room_for_two : (given out names : List Spot) (a i room : ℕ) → out ≡ given ++ right_names names a (i - a) → a ≤ i → i < length names
-    → length given + length names + 1 ≤ room + a → length out + 2 ≤ room
-room_for_two given out names a i room is from within fits =
+-- where the names from the apex to a last one will be given, there is room for two names more,
+pub room_for_two : (given out names : List Spot) (a i last room : ℕ) → out ≡ given ++ right_names names a (i - a) → a ≤ i → i ≤ last
+    → length given + last + 2 ≤ room + a → length out + 2 ≤ room
+room_for_two given out names a i last room is from within fits =
     let count = ap length is ∙ count_right given names a (i - a) in omega (arith, count, from, within, fits)
 
 -- and where the apex goes back to one of the first names, no more names are given than are left out
@@ -113,16 +113,16 @@ name_in_front names n i below = get_or-take n names i Start below
 pub name_behind : (names : List Spot) (n i : ℕ) → name_at (drop n names) i ≡ name_at names (n + i)
 name_behind names n i = get_or-drop n names i Start
 
--- where all names stand for points, those of the front do,
-pub front_named : (corners : List Point) (names : List Spot) (n : ℕ) → AreNamed corners names → AreNamed corners (take n names)
-front_named corners names n named = λ k d below.
+-- what holds of all names holds of those of the front,
+pub front_have : (P : Spot → Type 0) (names : List Spot) (n : ℕ) → All P names → All P (take n names)
+front_have P names n have = λ k d below.
     let e = length-take n names in
-    subst (IsNamed corners) (sym (get_or-take n names k d (omega arith))) (named k d (omega arith))
+    subst P (sym (get_or-take n names k d (omega arith))) (have k d (omega arith))
 
--- and the others
-pub rest_named : (corners : List Point) (names : List Spot) (n : ℕ) → AreNamed corners names → AreNamed corners (drop n names)
-rest_named corners names n named = λ k d below.
-    let e = length-drop n names in subst (IsNamed corners) (sym (get_or-drop n names k d)) (named (n + k) d (omega arith))
+-- and of the others
+pub rest_have : (P : Spot → Type 0) (names : List Spot) (n : ℕ) → All P names → All P (drop n names)
+rest_have P names n have = λ k d below.
+    let e = length-drop n names in subst P (sym (get_or-drop n names k d)) (have (n + k) d (omega arith))
 
 -- the apex of a walk is one of the names
 pub apex_below : {corners : List Point} {start goal : Point} {given names : List Spot} {a i j : ℕ} → IsWalked corners start goal given names a i j → a < length names

@@ -18,10 +18,10 @@ use Rattle.funnels.proofs.Chains.{bent_from_apex, chain_on, chain_to, reached_be
 use Rattle.funnels.proofs.Trees.{way_to}
 use Rattle.funnels.specs.Funnel.{IsReachedFrom}
 use Rattle.exact_plane.specs.Names.{AreNamed, name_at, named_points}
-use Rattle.exact_plane.specs.Spot.{point_named}
+use Rattle.exact_plane.specs.Spot.{IsNamed, point_named}
 use Rattle.exact_plane.specs.declared.turns.Spot.{Spot}
 use Rattle.exact_plane.specs.declared.turns.Spot.TheVariants.{Goal, Start}
-use Rattle.funnel_walk.proofs.Closed.{more_named, one_named, named_at_goal, named_to_goal, names_on_way, starts_at_goal, starts_to_goal}
+use Rattle.funnel_walk.proofs.Closed.{more_have, one_has, named_at_goal, named_to_goal, names_on_way, starts_at_goal, starts_to_goal}
 use Rattle.funnel_walk.proofs.Closed.{taut_at_goal, taut_to_goal}
 use Rattle.funnel_walk.proofs.Opened.{enters, shared}
 use Rattle.funnel_walk.proofs.PathNames.{length_named, point_of_name}
@@ -58,7 +58,7 @@ module _ (corners : List Point) (tris : List Tri) (fits : Fits corners tris) (k 
       others = [];
       appended = appended;
       alone = λ _. refl;
-      named = one_named corners Start tt;
+      named = one_has (IsNamed corners) Start tt;
       points = stays same;
     };
     last = λ differ. absurd (differ same);
@@ -72,7 +72,7 @@ module _ (corners : List Point) (tris : List Tri) (fits : Fits corners tris) (k 
       others = Goal ∷ [];
       appended = appended ∙ append_assoc out (Start ∷ []) (Goal ∷ []);
       alone = λ same. absurd (differ same);
-      named = more_named corners Start (Goal ∷ []) tt (one_named corners Goal tt);
+      named = more_have (IsNamed corners) Start (Goal ∷ []) tt (one_has (IsNamed corners) Goal tt);
       points = goes_straight differ in_goal;
     };
     last = λ _. refl;

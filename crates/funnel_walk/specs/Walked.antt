@@ -1,12 +1,21 @@
 -- How far a walk has come: the names that were given, and those of the funnel. No public clause cites this module.
-use Rattle.std.specs.Prelude.{◌≡◌, ◌≢◌, ℕ, List, [], ◌∷◌, ◌++◌, length}
-use Rattle.plane.specs.Point.{Point}
+use Rattle.std.specs.List.{All}
+use Rattle.std.specs.Prelude.{◌≡◌, ◌≢◌, ℕ, ◌+◌, ◌<◌, List, [], ◌∷◌, ◌++◌, length, slice_index_or}
+use Rattle.plane.specs.Point.{Point, whole}
 use Rattle.rings.specs.Chain.{IsTaut}
+use Rattle.meshes.specs.Fits.{Fits, IsInTri}
+use Rattle.meshes.specs.Side.{tri_at}
+use Rattle.meshes.specs.Sleeve.{IsOneOf, Sleeve, diagonal_at}
+use Rattle.meshes.specs.declared.tri.Tri.{Tri}
 use Rattle.funnels.specs.OpenFunnel.{IsOpenFunnel}
 use Rattle.exact_plane.specs.declared.turns.Spot.{Spot}
 use Rattle.exact_plane.specs.declared.turns.Spot.TheVariants.{Goal, Start}
 use Rattle.exact_plane.specs.Names.{AppendsNames, AreNamed, name_at, named_points}
 use Rattle.exact_plane.specs.Spot.{point_named}
+
+-- none of the names is the goal's
+abbrev pub HaveNoGoal : List Spot → Type 0
+HaveNoGoal names = All (λ name. name ≢ Goal) names
 
 -- the names stand for the funnel at the diagonal from vertex i to vertex j, with the apex at place a, and those that were given for
 -- the points before it, from the start on
@@ -15,7 +24,20 @@ pub record IsWalked (corners : List Point) (start goal : Point) (given names : L
       (named_points (point_named corners start goal) names) a i j
   pub given_named : AreNamed corners given
   pub named : AreNamed corners names
+  pub given_no_goal : HaveNoGoal given
+  pub no_goal : HaveNoGoal names
   pub starts : name_at (given ++ name_at names a ∷ []) 0 ≡ Start
+
+-- so far a walk has come behind a diagonal of a sleeve, and the triangle there has the goal
+pub record HasArrived (corners : List Point) (start goal : Point) (given names : List Spot) (a : ℕ) : Type 0 where
+  pub tris : List Tri
+  pub fits : Fits corners tris
+  pub sleeve : Sleeve
+  pub of_mesh : IsOneOf tris sleeve
+  pub i : ℕ
+  pub below : i < length sleeve.diagonals
+  pub in_goal : IsInTri corners (tri_at tris (slice_index_or sleeve.walk (i + 1) 0)) (whole goal)
+  pub walked : IsWalked corners start goal given names a (diagonal_at sleeve i).left (diagonal_at sleeve i).right
 
 -- the names of a taut chain were appended, and the goal's own name is the last where it is not the start's point
 pub record AppendsTaut (corners : List Point) (start goal : Point) (out out' : List Spot) : Type 0 where

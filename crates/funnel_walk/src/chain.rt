@@ -9,9 +9,9 @@ ghost use Rattle.exact_plane.specs.declared.turns.Spot.TheVariants.{Goal};
 ghost use Rattle.exact_plane.specs.Names.{AppendsNames, AreNamed, name_at};
 ghost use Rattle.exact_plane.specs.Spot.{point_named};
 ghost use Rattle.funnel_walk.specs.Names.{IsOwnName, right_names};
-ghost use Rattle.funnel_walk.specs.Walked.{AppendsTaut, IsWalked};
+ghost use Rattle.funnel_walk.specs.Walked.{AppendsTaut, HasArrived, IsWalked};
 
-use crate::funnel::{name_at, narrow_left, narrow_right};
+use crate::funnel::{name_at, narrow_left, narrow_right, place_from_right};
 use crate::room::FunnelBox;
 use circular_buffer::HeapCircularBuffer;
 use exact_plane::{Spot, Steps, Turns};
@@ -82,12 +82,11 @@ fn walk_on<T: Turns, L: Ledger>(
     for i in 1..sleeve.len() {
         apex = cross(names, board, mesh, sleeve, i, apex, given, out, steps);
     }
-    let apex = narrow_right(board, names, apex, Spot::Goal, out, steps);
-    close(board, names, apex, out, steps);
+    reach_goal(board, names, apex, given, out, steps);
 }
 
 // The funnel of the first diagonal. It takes 2 steps.
-fn open<T: Turns, L: Ledger>(
+pub(crate) fn open<T: Turns, L: Ledger>(
     names: &mut HeapCircularBuffer<Spot>,
     board: &T,
     mesh: &Mesh,
@@ -121,7 +120,7 @@ fn open<T: Turns, L: Ledger>(
 
 // The funnel of diagonal `i`, from that of the one before. What comes to `out` after the first `given` names is on the way to
 // its apex.
-fn cross<T: Turns, L: Ledger>(
+pub(crate) fn cross<T: Turns, L: Ledger>(
     names: &mut HeapCircularBuffer<Spot>,
     board: &T,
     mesh: &Mesh,
@@ -163,29 +162,50 @@ fn cross<T: Turns, L: Ledger>(
     }
 }
 
+// Gives the names on the way to the goal in the triangle behind the diagonal. What comes to `out` after the first `given` names
+// is on the way to the apex. The funnel stays, so that the walk can go on.
+pub(crate) fn reach_goal<T: Turns, L: Ledger>(
+    board: &T,
+    names: &HeapCircularBuffer<Spot>,
+    apex: usize,
+    given: usize,
+    out: &mut Vec<Spot>,
+    steps: &mut Steps<L>,
+)
+    requires differ { T.start board.now ≢ T.goal board.now }
+    requires given { given ≤ length out.old.items }
+    requires arrived { HasArrived (T.corners board.now) (T.start board.now) (T.goal board.now) (drop given out.old.items) names.now.items apex }
+    requires room { length out.old.items + length names.now.items + 1 ≤ vec_capacity out.old }
+    ensures taut { AppendsTaut (T.corners board.now) (T.start board.now) (T.goal board.now) (take given out.old.items) out.new.items }
+    ensures same_out { vec_capacity out.new ≡ vec_capacity out.old }
+    ensures steps { steps.new ≤ steps.old + length names.now.items + 1 }
+{
+    let last = place_from_right(board, names, apex, Spot::Goal, out, steps);
+    close(board, names, apex.min(last), last, out, steps);
+}
+
 // Gives the names from the apex on to the last one, and the goal. A last name that stands for the goal is left out. It takes
 // one step.
 fn close<T: Turns, L: Ledger>(
     board: &T,
     names: &HeapCircularBuffer<Spot>,
     apex: usize,
+    last: usize,
     out: &mut Vec<Spot>,
     steps: &mut Steps<L>,
 )
-    requires apex { apex < length names.now.items }
+    requires apex { apex ≤ last }
+    requires last { last < length names.now.items }
     requires named { AreNamed (T.corners board.now) names.now.items }
-    requires room { length out.old.items + length names.now.items + 1 ≤ vec_capacity out.old + apex }
-    ensures at_goal { let last = length names.now.items - 1 in
-        point_named (T.corners board.now) (T.start board.now) (T.goal board.now) (name_at names.now.items last) ≡ T.goal board.now
+    requires room { length out.old.items + last + 2 ≤ vec_capacity out.old + apex }
+    ensures at_goal { point_named (T.corners board.now) (T.start board.now) (T.goal board.now) (name_at names.now.items last) ≡ T.goal board.now
         → out.new.items ≡ (out.old.items ++ right_names names.now.items apex (last - apex)) ++ Goal ∷ [] }
-    ensures to_goal { let last = length names.now.items - 1 in
-        point_named (T.corners board.now) (T.start board.now) (T.goal board.now) (name_at names.now.items last) ≢ T.goal board.now
+    ensures to_goal { point_named (T.corners board.now) (T.start board.now) (T.goal board.now) (name_at names.now.items last) ≢ T.goal board.now
         → out.new.items
         ≡ ((out.old.items ++ right_names names.now.items apex (last - apex)) ++ name_at names.now.items last ∷ []) ++ Goal ∷ [] }
     ensures same_out { vec_capacity out.new ≡ vec_capacity out.old }
     ensures steps { steps.new ≡ steps.old + 1 }
 {
-    let last = names.len() - 1;
     for i in apex..last {
         out.push_reserved(name_at(names, i));
     }

@@ -50,6 +50,36 @@ fn is_not_left(turn: Direction) -> bool
     turn != Direction::Left
 }
 
+// The place that the way to `y` comes from, looked for from the right end on. The names that the way leaves behind go to `out`.
+pub(crate) fn place_from_right<T: Turns, L: Ledger>(
+    board: &T,
+    names: &HeapCircularBuffer<Spot>,
+    apex: usize,
+    y: Spot,
+    out: &mut Vec<Spot>,
+    steps: &mut Steps<L>,
+) -> usize
+    requires apex { apex < length names.now.items }
+    requires named { AreNamed (T.corners board.now) names.now.items }
+    requires y_named { IsNamed (T.corners board.now) y }
+    requires room { length out.old.items + apex ≤ vec_capacity out.old }
+    ensures within { result < length names.now.items }
+    ensures reached { let at = point_named (T.corners board.now) (T.start board.now) (T.goal board.now) in
+        IsReachedFrom (named_points at names.now.items) apex result (whole (at y)) }
+    ensures behind { out.new.items ≡ out.old.items ++ left_names names.now.items apex (apex - result) }
+    ensures same_out { vec_capacity out.new ≡ vec_capacity out.old }
+    ensures steps { steps.new + result ≤ steps.old + length names.now.items }
+{
+    let mut last = names.len() - 1;
+    while last > 0 && !is_passed(board, names, apex, last, y, steps) {
+        if last <= apex {
+            out.push_reserved(name_at(names, last));
+        }
+        last -= 1;
+    }
+    last
+}
+
 // Takes away names on the right, until the way to `y` comes from the last one. The names that the way leaves behind go to
 // `out`. The answer is the place of the new apex.
 pub(crate) fn narrow_right<T: Turns, L: Ledger>(
@@ -75,17 +105,11 @@ pub(crate) fn narrow_right<T: Turns, L: Ledger>(
     ensures same_out { vec_capacity out.new ≡ vec_capacity out.old }
     ensures steps { steps.new + length names.new.items ≤ steps.old + length names.old.items + 1 }
 {
-    let mut apex = apex;
-    let mut last = names.len() - 1;
-    while last > 0 && !is_passed(board, names, apex, last, y, steps) {
-        if last == apex {
-            out.push_reserved(name_at(names, last));
-            apex -= 1;
-        }
-        names.pop_back();
-        last -= 1;
-    }
-    apex
+    // The prover learns from this call that the place after the last one is a number, too.
+    let _count = names.len();
+    let place = place_from_right(board, names, apex, y, out, steps);
+    names.truncate_back(place + 1);
+    apex.min(place)
 }
 
 // The same on the left, until it comes from the first one.

@@ -4,6 +4,8 @@
 mod chain;
 mod funnel;
 mod room;
+mod several;
 
 pub use chain::walk;
 pub use room::FunnelBox;
+pub use several::paths_from;

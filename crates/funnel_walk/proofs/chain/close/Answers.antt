@@ -1,4 +1,4 @@
-use Rattle.std.proofs.Common.{◌≡◌, sym, ap, ◌∙◌, ◌+◌, ◌-◌, ◌<◌, ◌++◌, [], ◌∷◌, length, vec_capacity, arith}
+use Rattle.std.proofs.Common.{◌≡◌, sym, ap, ◌∙◌, ◌+◌, ◌-◌, ◌≤◌, ◌++◌, [], ◌∷◌, length, vec_capacity, arith}
 use Rattle.std.proofs.lemmas.List.{append_assoc, length-append}
 use Rattle.exact_plane.specs.Names.{name_at}
 use Rattle.funnel_walk.proofs.PathNames.{right_more, room_for_two}
@@ -9,8 +9,8 @@ use Rattle.funnel_walk.specs.Names.{right_names}
 pub push_reserved-requires : goal.push_reserved-requires
 push_reserved-requires g c =
     let inv = c.loop-i.invariant in
-    let within : c.loop-i.i < length c.args.names.now.items = omega (arith, c.loop-i-test.true, c.len-last.ensures.len) in
-    let room = room_for_two _ _ c.args.names.now.items c.args.apex c.loop-i.i _ inv.given c.loop-i.auto.i within c.requires.room in
+    let within : c.loop-i.i ≤ c.args.last = omega (arith, c.loop-i-test.true) in
+    let room = room_for_two _ _ c.args.names.now.items c.args.apex c.loop-i.i c.args.last _ inv.given c.loop-i.auto.i within c.requires.room in
     omega (arith, room, inv.same_out, c.loop-i.out.ok.0)
 
 pub loop-i-preserved : goal.loop-i-preserved
@@ -35,15 +35,15 @@ loop-i-preserved g c =
 pub push_reserved-requires-then-not-same : goal.push_reserved-requires-then-not-same
 push_reserved-requires-then-not-same g c =
     let inv = c.loop-i.invariant in
-    let within : c.loop-i.i < length c.args.names.now.items = omega (arith, c.loop-i.auto.i, c.loop-i.auto.i-end, c.loop-i-test.false, c.len-last.ensures.len, c.requires.apex) in
-    let room = room_for_two _ _ c.args.names.now.items c.args.apex c.loop-i.i _ inv.given c.loop-i.auto.i within c.requires.room in
+    let within : c.loop-i.i ≤ c.args.last = omega (arith, c.loop-i.auto.i-end, c.requires.apex) in
+    let room = room_for_two _ _ c.args.names.now.items c.args.apex c.loop-i.i c.args.last _ inv.given c.loop-i.auto.i within c.requires.room in
     omega (arith, room, inv.same_out, c.loop-i.out.ok.0)
 
 pub push_reserved-requires-2 : goal.push_reserved-requires-2
 push_reserved-requires-2 g c =
     let inv = c.loop-i.invariant in
-    let within : c.loop-i.i < length c.args.names.now.items = omega (arith, c.loop-i.auto.i, c.loop-i.auto.i-end, c.loop-i-test.false, c.len-last.ensures.len, c.requires.apex) in
-    let room = room_for_two _ _ c.args.names.now.items c.args.apex c.loop-i.i _ inv.given c.loop-i.auto.i within c.requires.room in
+    let within : c.loop-i.i ≤ c.args.last = omega (arith, c.loop-i.auto.i-end, c.requires.apex) in
+    let room = room_for_two _ _ c.args.names.now.items c.args.apex c.loop-i.i c.args.last _ inv.given c.loop-i.auto.i within c.requires.room in
     elim c.if-not-same.branch [
       | then-not-same w ↦
           let one_more = ap length w.push_reserved-then-not-same.ensures.items ∙ length-append c.loop-i.out.items _ in
