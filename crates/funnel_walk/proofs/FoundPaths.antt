@@ -1,11 +1,11 @@
 -- Paths that are found one after another: how many are missing, and what they cost.
-use Rattle.std.proofs.Common.{◌≡◌, ◌≢◌, refl, inl, inr, sym, ap, subst, ◌∙◌, ℕ, zero, suc, ◌+◌, ◌-◌, ◌*◌, ◌<◌, ◌≤◌, ◌⊎◌, List, [], ◌∷◌, ◌++◌, length, get_or, map, set, pos, arith}
+use Rattle.std.proofs.Common.{◌≡◌, refl, inl, inr, sym, ap, subst, ◌∙◌, ℕ, zero, suc, ◌+◌, ◌-◌, ◌*◌, ◌<◌, ◌≤◌, ◌⊎◌, List, [], ◌∷◌, ◌++◌, length, get_or, set, pos, arith}
 use Rattle.std.proofs.Math.Nat.{mul-le-mul_left, mul-le-mul_right}
 use Rattle.std.proofs.lemmas.Bool.{cases_eq}
 use Rattle.std.proofs.lemmas.List.{get_or-set_other, get_or-set_same, length-set}
 use Rattle.plane.specs.Point.{Point}
 use Rattle.rings.specs.Chain.{point_at}
-use Rattle.funnel_walk.specs.Several.{ArePathsFrom, ArePathsSoFar, FindsPaths, IsShortPath, KeepsPaths, missing}
+use Rattle.funnel_walk.specs.Several.{ArePathsFrom, ArePathsSoFar, FindsPaths, IsPathOfFewPoints, KeepsPaths, missing}
 
 -- no path more is no path
 pub none_more : (found : List (List Point)) → ((k : ℕ) → length (get_or found k []) ≡ 0) → (k : ℕ) → length (get_or (found ++ [] ∷ []) k []) ≡ 0
@@ -94,15 +94,15 @@ module _ (corners : List Point) (s : Point) (points : List Point) (cost : ℕ) w
       below_found = omega (arith, below, finds.so_far.count)
 
       -- one path may be found,
-      pub finds_more : (path : List Point) (later : ℕ) → IsShortPath corners s (point_at points j) path → later ≤ steps + cost
+      pub finds_more : (path : List Point) (later : ℕ) → IsPathOfFewPoints corners s (point_at points j) path → later ≤ steps + cost
           → FindsPaths corners s points cost start begun (set found j path) later
       finds_more path later is few = record {
         so_far = record {
           count = length-set found j path ∙ finds.so_far.count;
           each = λ k within. elim (cases_eq k j) [
-            | inl same ↦ inr (subst (λ (i : ℕ). IsShortPath corners s (point_at points i) (get_or (set found j path) i [])) (sym same)
-                (subst (IsShortPath corners s (point_at points j)) (sym (get_or-set_same found j path [] below_found)) is))
-            | inr other ↦ subst (λ old. (length old ≡ 0) ⊎ IsShortPath corners s (point_at points k) old)
+            | inl same ↦ inr (subst (λ (i : ℕ). IsPathOfFewPoints corners s (point_at points i) (get_or (set found j path) i [])) (sym same)
+                (subst (IsPathOfFewPoints corners s (point_at points j)) (sym (get_or-set_same found j path [] below_found)) is))
+            | inr other ↦ subst (λ old. (length old ≡ 0) ⊎ IsPathOfFewPoints corners s (point_at points k) old)
                 (sym (get_or-set_other found j k path [] other)) (finds.so_far.each k within)
           ];
         };

@@ -18,7 +18,7 @@ use Rattle.funnels.proofs.OneChain.{one_taut_chain}
 use Rattle.funnels.proofs.Trees.{length_leftward, length_rightward, path_differs}
 use Rattle.funnels.proofs.Vertices.{fitted_long, fitted_simple}
 use Rattle.funnels.specs.OpenFunnel.{left_behind, right_behind}
-use Rattle.exact_plane.specs.Names.{AreNamed, name_at, named_points, AppendsNames}
+use Rattle.exact_plane.specs.Names.{name_at, named_points, AppendsNames}
 use Rattle.exact_plane.specs.Spot.{IsNamed, point_named}
 use Rattle.exact_plane.specs.declared.turns.Spot.{Spot}
 use Rattle.exact_plane.specs.declared.turns.Spot.TheVariants.{Start, Corner, Goal}

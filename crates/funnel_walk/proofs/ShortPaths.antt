@@ -1,5 +1,5 @@
 -- The points of the names of a path are a path of few points; and where the start is the goal, its name alone is one.
-use Rattle.std.proofs.Common.{◌≡◌, refl, sym, subst, ◌∙◌, ap, ℕ, ◌+◌, ◌<◌, ◌≤◌, List, [], ◌∷◌, ◌++◌, length, arith}
+use Rattle.std.proofs.Common.{◌≡◌, refl, sym, subst, ap, ℕ, ◌+◌, ◌≤◌, List, [], ◌∷◌, length, arith}
 use Rattle.plane.specs.Point.{Point}
 use Rattle.rings.specs.Chain.{IsPath}
 use Rattle.exact_plane.specs.Names.{AppendsNames, AreNamed, named_points}
@@ -8,7 +8,7 @@ use Rattle.exact_plane.specs.declared.turns.Spot.{Spot}
 use Rattle.exact_plane.specs.declared.turns.Spot.TheVariants.{Start}
 use Rattle.funnel_walk.proofs.PathNames.{length_named, path_named}
 use Rattle.funnel_walk.proofs.ShortWalks.{stays_named}
-use Rattle.funnel_walk.specs.Several.{IsShortPath}
+use Rattle.funnel_walk.specs.Several.{IsPathOfFewPoints}
 use Rattle.funnel_walk.specs.Walked.{AppendsTaut, HasArrived}
 
 module _ (corners : List Point) (s t : Point) (names : List Spot) (appends : AppendsNames corners s t (IsPath corners s t) [] names) where
@@ -18,7 +18,7 @@ module _ (corners : List Point) (s t : Point) (names : List Spot) (appends : App
 
   -- and where they are few these are a short path, in the ring and between the points that the board was made of
   pub short_path : (ring : List Point) (from to : Point) → corners ≡ ring → s ≡ from → t ≡ to → length names ≤ length ring + 1
-      → IsShortPath ring from to (named_points (point_named corners s t) names)
+      → IsPathOfFewPoints ring from to (named_points (point_named corners s t) names)
   short_path ring from to same same_s same_t few =
       let count = length_named (point_named corners s t) names in
       rw (← same, ← same_s, ← same_t)

@@ -3,12 +3,12 @@ use Rattle.std.specs.Prelude.{◌≡◌, ◌⊎◌, ℕ, ◌+◌, ◌-◌, ◌*�
 use Rattle.std.specs.declared.alloc.Global.{Global}
 use Rattle.plane.specs.Point.{Point, whole}
 use Rattle.rings.specs.Chain.{IsPath, point_at}
-use Rattle.meshes.specs.Fits.{Fits, IsInTri}
+use Rattle.meshes.specs.Fits.{IsInTri}
 use Rattle.meshes.specs.Side.{HasSide, tri_at}
 use Rattle.meshes.specs.declared.tri.Tri.{Tri}
 
 -- a point or more, at most one more than the ring has vertices, and the path
-pub record IsShortPath (corners : List Point) (s t : Point) (path : List Point) : Type 0 where
+pub record IsPathOfFewPoints (corners : List Point) (s t : Point) (path : List Point) : Type 0 where
   pub is_path : IsPath corners s t path
   pub some : 0 < length path
   pub short : length path ≤ length corners + 1
@@ -16,7 +16,7 @@ pub record IsShortPath (corners : List Point) (s t : Point) (path : List Point) 
 -- the path to each of the points, in their order
 pub record ArePathsFrom (corners : List Point) (s : Point) (points : List Point) (paths : List (List Point)) : Type 0 where
   pub count : length paths ≡ length points
-  pub each : (k : ℕ) → k < length points → IsShortPath corners s (point_at points k) (slice_index_or paths k [])
+  pub each : (k : ℕ) → k < length points → IsPathOfFewPoints corners s (point_at points k) (slice_index_or paths k [])
 
 -- a triangle of the mesh for each point, which holds it
 pub record AreInTris (corners : List Point) (mesh : List Tri) (tris : List ℕ) (points : List Point) : Type 0 where
@@ -32,7 +32,7 @@ listed chains = map (λ chain. chain.items) chains
 pub record ArePathsSoFar (corners : List Point) (s : Point) (points : List Point) (found : List (List Point)) : Type 0 where
   pub count : length found ≡ length points
   pub each : (k : ℕ) → k < length points → (length (slice_index_or found k []) ≡ 0)
-      ⊎ IsShortPath corners s (point_at points k) (slice_index_or found k [])
+      ⊎ IsPathOfFewPoints corners s (point_at points k) (slice_index_or found k [])
 
 -- no path that was found is lost
 abbrev pub KeepsPaths : List (List Point) → List (List Point) → Type 0

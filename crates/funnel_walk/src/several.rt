@@ -7,7 +7,7 @@ ghost use Rattle.meshes.specs.Side.{HasSide, tri_at};
 ghost use Rattle.meshes.specs.Sleeve.{IsOneOf, diagonal_at};
 ghost use Rattle.exact_plane.specs.Names.{AppendsNames, AreNamed, named_points};
 ghost use Rattle.exact_plane.specs.Spot.{point_named};
-ghost use Rattle.funnel_walk.specs.Several.{AreInTris, ArePathsFrom, ArePathsSoFar, AreServed, FindsPaths, IsShortPath, listed, missing};
+ghost use Rattle.funnel_walk.specs.Several.{AreInTris, ArePathsFrom, ArePathsSoFar, AreServed, FindsPaths, IsPathOfFewPoints, listed, missing};
 ghost use Rattle.funnel_walk.specs.Walked.{HasArrived, IsWalked};
 
 use crate::chain::{cross, open, reach_goal, walk};
@@ -117,7 +117,7 @@ impl<'a> Stops<'a> {
         requires none { length sleeve.now.diagonals ≡ 0 }
         requires start { IsInTri self.now.ring.now.corners (tri_at self.now.mesh.now (slice_index_or sleeve.now.walk 0 0)) (whole self.now.start.now) }
         requires goal { IsInTri self.now.ring.now.corners (tri_at self.now.mesh.now (slice_index_or sleeve.now.walk (length sleeve.now.walk - 1) 0)) (whole t.now) }
-        ensures path { IfOk result (λ path. IsShortPath self.now.ring.now.corners self.now.start.now t.now path.items) }
+        ensures path { IfOk result (λ path. IsPathOfFewPoints self.now.ring.now.corners self.now.start.now t.now path.items) }
         ensures steps { steps.new ≤ steps.old + 8 }
     {
         let board = Board::new(self.ring, *self.start, *t);
@@ -244,7 +244,7 @@ impl<'a> Stops<'a> {
     ) -> Result<Vec<Pt>, Memory>
         requires arrived { HasArrived self.now.ring.now.corners self.now.start.now t.now behind.now names.now.items apex }
         requires few { length behind.now + length names.now.items + 1 ≤ length self.now.ring.now.corners }
-        ensures path { IfOk result (λ path. IsShortPath self.now.ring.now.corners self.now.start.now t.now path.items) }
+        ensures path { IfOk result (λ path. IsPathOfFewPoints self.now.ring.now.corners self.now.start.now t.now path.items) }
         ensures steps { steps.new ≤ steps.old + length names.now.items + 2 }
     {
         let _few_vertices = self.ring.len();

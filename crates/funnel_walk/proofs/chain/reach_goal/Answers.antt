@@ -1,4 +1,4 @@
-use Rattle.std.proofs.Common.{◌≡◌, refl, inl, inr, ap, ◌∙◌, ◌-◌, ◌≤◌, ◌++◌, [], ◌∷◌, length, take, drop, arith}
+use Rattle.std.proofs.Common.{refl, inl, inr, ap, ◌∙◌, ◌-◌, ◌++◌, [], ◌∷◌, length, take, drop, arith}
 use Rattle.std.proofs.lemmas.List.{append_assoc}
 use Rattle.plane.proofs.Order.{point_or_other}
 use Rattle.exact_plane.specs.declared.turns.Spot.TheVariants.{Goal}

@@ -1,4 +1,4 @@
-use Rattle.std.proofs.Common.{◌≡◌, subst, ◌∙◌, ◌+◌, ◌-◌, ◌<◌, ◌≤◌, length, drop, arith}
+use Rattle.std.proofs.Common.{◌≡◌, subst, ◌∙◌, ◌+◌, ◌-◌, length, drop, arith}
 use Rattle.meshes.specs.Sleeve.{diagonal_at}
 use Rattle.funnel_walk.proofs.chain.walk_on.Goals as goal
 use Rattle.funnel_walk.specs.Walked.{AppendsTaut, IsWalked}

@@ -1,4 +1,4 @@
-use Rattle.std.proofs.Common.{◌≡◌, ◌∙◌, ◌+◌, ◌≤◌, length, vec_capacity, arith, ap}
+use Rattle.std.proofs.Common.{arith}
 use Rattle.funnel_walk.proofs.ShortPaths.{arrived_at_once, arrived_path}
 use Rattle.funnel_walk.proofs.several.names_behind.Goals as goal
 use Rattle.funnel_walk.proofs.several.names_behind.Goals.{else-same, then-same}

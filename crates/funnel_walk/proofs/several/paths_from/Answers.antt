@@ -1,4 +1,4 @@
-use Rattle.std.proofs.Common.{◌≡◌, inl, inr, sym, ap, subst, ◌∙◌, ℕ, ◌+◌, ◌-◌, ◌*◌, ◌<◌, ◌≤◌, [], length, get_or, arith}
+use Rattle.std.proofs.Common.{inl, inr, sym, subst, ◌∙◌, ℕ, ◌-◌, ◌*◌, ◌<◌, [], length, get_or, arith}
 use Rattle.std.proofs.lemmas.Bool.{cases_eq, false≢true}
 use Rattle.std.proofs.lemmas.List.{length-map}
 use Rattle.funnel_walk.proofs.FoundPaths.{all_found, finds_then, start_cost}

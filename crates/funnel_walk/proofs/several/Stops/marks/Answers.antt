@@ -1,6 +1,5 @@
-use Rattle.std.proofs.Common.{◌≡◌, refl, inl, inr, sym, ap, subst, ◌<◌, ℕ, length, slice_index, arith, List}
+use Rattle.std.proofs.Common.{refl, inl, inr, arith}
 use Rattle.meshes.proofs.Sides.{ends_below}
-use Rattle.meshes.specs.Side.{tri_at}
 use Rattle.funnel_walk.proofs.several.Stops.marks.Goals as goal
 
 pub index_mut-requires : goal.index_mut-requires

@@ -1,4 +1,4 @@
-use Rattle.std.proofs.Common.{◌≡◌, ◌∙◌, ◌+◌, ◌≤◌, [], ap, sym, subst, length, vec_capacity, arith}
+use Rattle.std.proofs.Common.{◌∙◌, ◌+◌, ◌≤◌, [], ap, sym, subst, length, arith}
 use Rattle.std.proofs.lemmas.Result.{IfOk-weaker}
 use Rattle.meshes.proofs.Sides.{two_fewer}
 use Rattle.rings.specs.Chain.{IsPath}
@@ -6,7 +6,7 @@ use Rattle.exact_plane.specs.Names.{AppendsNames, named_points}
 use Rattle.exact_plane.specs.Spot.{point_named}
 use Rattle.funnel_walk.proofs.ShortPaths.{short_path}
 use Rattle.funnel_walk.proofs.several.Stops.path_at_home.Goals as goal
-use Rattle.funnel_walk.specs.Several.{IsShortPath}
+use Rattle.funnel_walk.specs.Several.{IsPathOfFewPoints}
 
 pub returns-clause-path : goal.returns-clause-path
 returns-clause-path g c =
@@ -23,7 +23,7 @@ returns-clause-path g c =
     let triangles = c.requires.of_mesh.walk.in_list 0 c.requires.of_mesh.walk.some in
     let few : length names ≤ length corners + 1 =
     omega (arith, c.walk.ensures.same_out, c.in_ok-names.ensures.exact, c.walk.new.out.ok.0, c.walk.new.out.ok.1, some, triangles) in
-    let short : IsShortPath corners s t (named_points at names) =
+    let short : IsPathOfFewPoints corners s t (named_points at names) =
     short_path _ _ _ _ path corners s t c.new-board.ensures.corners c.new-board.ensures.start c.new-board.ensures.goal few in
     IfOk-weaker c.points_of.result _ _
-    (λ points is. subst (IsShortPath corners s t) (sym (is ∙ ap (named_points at) c.deref.ensures.value)) short) c.points_of.ensures
+    (λ points is. subst (IsPathOfFewPoints corners s t) (sym (is ∙ ap (named_points at) c.deref.ensures.value)) short) c.points_of.ensures

@@ -1,4 +1,4 @@
-use Rattle.std.proofs.Common.{◌≡◌, ◌≢◌, inl, inr, sym, ap, subst, ◌∙◌, ℕ, ◌+◌, ◌*◌, ◌<◌, ◌≤◌, [], length, get_or, slice_index, set, arith}
+use Rattle.std.proofs.Common.{◌≡◌, inl, inr, sym, ap, subst, ◌∙◌, ◌+◌, ◌<◌, [], length, get_or, set, arith}
 use Rattle.std.proofs.lemmas.Bool.{cases_eq, false≢true}
 use Rattle.std.proofs.lemmas.List.{get_or_default, map-set}
 use Rattle.plane.specs.Point.{whole}
@@ -11,7 +11,7 @@ use Rattle.funnel_walk.proofs.EachGoal.{each_goal}
 use Rattle.funnel_walk.proofs.FoundPaths.{finds_more, finds_none, paid_for, there}
 use Rattle.funnel_walk.proofs.several.Stops.serve.Goals as goal
 use Rattle.funnel_walk.proofs.several.Stops.serve.Goals.{then-is_due+in_ok-path, else-is_due}
-use Rattle.funnel_walk.specs.Several.{IsShortPath, listed}
+use Rattle.funnel_walk.specs.Several.{IsPathOfFewPoints, listed}
 
 pub path_behind-requires-clause-arrived : goal.path_behind-requires-clause-arrived
 path_behind-requires-clause-arrived g c =
@@ -57,7 +57,7 @@ loop-j-preserved g c =
           let path = w.in_ok-path.path.items in
           let point = get_or_default points j origin w.index-self-j.result c.loop-j-test.true in
           let put : listed w.put.new.found.items ≡ set old j path = ap listed w.put.ensures ∙ map-set (λ chain. chain.items) c.loop-j.found.items j w.in_ok-path.path in
-          let is : IsShortPath corners s (point_at points j) path = subst (λ p. IsShortPath corners s p path) (sym point) w.in_ok-path.ensures.path in
+          let is : IsPathOfFewPoints corners s (point_at points j) path = subst (λ p. IsPathOfFewPoints corners s p path) (sym point) w.in_ok-path.ensures.path in
           let finds = finds_more corners s points _ _ _ old _ inv.finds j c.loop-j-test.true due.0 path w.path_behind.new.steps is
           (omega (arith, w.in_ok-path.ensures.steps, c.requires.few)) in
           let kept = (finds_more corners s points 0 old 0 old 0 (finds_none corners s points 0 old 0 inv.finds.so_far) j c.loop-j-test.true due.0 path 0 is (omega arith)).kept in

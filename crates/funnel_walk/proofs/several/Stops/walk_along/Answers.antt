@@ -1,11 +1,10 @@
-use Rattle.std.proofs.Common.{◌≡◌, sym, ap, subst, ◌∙◌, ◌+◌, ◌-◌, ◌*◌, ◌<◌, ◌≤◌, length, arith}
+use Rattle.std.proofs.Common.{◌≡◌, ap, subst, ◌∙◌, ◌+◌, ◌-◌, length, arith}
 use Rattle.meshes.specs.Sleeve.{diagonal_at}
 use Rattle.dual_tree.proofs.SleeveRoom.{sleeve_few}
-use Rattle.funnel_walk.proofs.FoundPaths.{finds_later, finds_none, finds_on}
+use Rattle.funnel_walk.proofs.FoundPaths.{finds_later, finds_on}
 use Rattle.funnel_walk.proofs.Opened.{diagonal_below}
 use Rattle.funnel_walk.proofs.several.Stops.walk_along.Goals as goal
 use Rattle.funnel_walk.proofs.several.Stops.walk_along.Goals.{then-is_marked+in_ok-serve, else-is_marked}
-use Rattle.funnel_walk.specs.Several.{listed}
 use Rattle.funnel_walk.specs.Walked.{IsWalked}
 
 pub is_marked-requires-clause-left : goal.is_marked-requires-clause-left

@@ -1,5 +1,5 @@
-use Rattle.std.proofs.Common.{◌≡◌, sym, ap, subst, ◌∙◌, ◌+◌, ◌-◌, ◌*◌, ◌<◌, ◌≤◌, [], length, get_or, slice_index, set, arith}
-use Rattle.std.proofs.lemmas.List.{get_or_default, length-map, map-set}
+use Rattle.std.proofs.Common.{◌≡◌, sym, ap, subst, ◌∙◌, ◌+◌, ◌-◌, ◌*◌, ◌<◌, length, get_or, slice_index, set, arith}
+use Rattle.std.proofs.lemmas.List.{get_or_default, map-set}
 use Rattle.rings.specs.Chain.{point_at}
 use Rattle.rings.specs.Ring.{origin}
 use Rattle.meshes.specs.Side.{HasSide, tri_at}
@@ -7,7 +7,7 @@ use Rattle.meshes.specs.Sleeve.{diagonal_at}
 use Rattle.funnel_walk.proofs.FoundPaths.{cost_left, finds_more, finds_none, there, walk_broken, walk_finds}
 use Rattle.funnel_walk.proofs.several.Stops.walk_to.Goals as goal
 use Rattle.funnel_walk.proofs.several.Stops.walk_to.Goals.{then-len-eq0+in_ok-path, else-len-eq0+in_ok-walk_along}
-use Rattle.funnel_walk.specs.Several.{IsShortPath, listed}
+use Rattle.funnel_walk.specs.Several.{IsPathOfFewPoints, listed}
 
 pub returns-clause-served : goal.returns-clause-served
 returns-clause-served g c =
@@ -50,7 +50,7 @@ returns-clause-found g c =
           let path = w.in_ok-path.path.items in
           let put : listed w.put.new.found.items ≡ set old k path = ap listed w.put.ensures ∙ map-set (λ chain. chain.items) c.args.found.now.items k w.in_ok-path.path in
           let point = get_or_default points k origin w.index-self-k.result c.requires.within in
-          let is : IsShortPath corners s (point_at points k) path = subst (λ p. IsShortPath corners s p path) (sym point) w.in_ok-path.ensures.path in
+          let is : IsPathOfFewPoints corners s (point_at points k) path = subst (λ p. IsPathOfFewPoints corners s p path) (sym point) w.in_ok-path.ensures.path in
           rw (w.found-is, w.steps-is, put) (finds_more corners s points (4 * n) old c.args.steps.now old c.args.steps.now
           (finds_none corners s points (4 * n) old c.args.steps.now c.requires.found) k c.requires.within c.requires.none path _ is
           (omega (arith, some, w.in_ok-path.ensures.steps)))
