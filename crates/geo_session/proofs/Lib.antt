@@ -23,6 +23,7 @@ mod SortedPairs
 mod TurnedPairs
 mod Spanned
 mod HullSteps
+mod HullRows
 mod HullTable
 mod Hulls
 mod RoundPlaces

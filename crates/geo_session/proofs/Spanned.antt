@@ -143,13 +143,13 @@ module _ (m k : ℕ) (below : k < m * m) where
   column_below = mod-lt k some_row
 
 module _ (m s t : ℕ) (at_s : s < m) (at_t : t < m) where
-  row_of : (s * m + t) / m ≡ s
+  pub row_of : (s * m + t) / m ≡ s
   row_of = mul-add-div_right (omega arith) s t ∙ ap (λ (k : ℕ). s + k) (div-eq_of_lt at_t) ∙ omega arith
 
-  column_of : (s * m + t) % m ≡ t
+  pub column_of : (s * m + t) % m ≡ t
   column_of = mul-add-mod_self_right s m t ∙ mod-eq_of_lt at_t
 
-  place_below : s * m + t < m * m
+  pub place_below : s * m + t < m * m
   place_below = (div-lt_iff_lt-mul (omega arith)).0 (subst (λ (row : ℕ). row < m) (sym row_of) at_s)
 
 module _ (ring points : List Point) (numbers : List ℕ) (n : ℕ) (chains : List (List Point)) (are : AreChains ring points numbers n chains) where

@@ -1,6 +1,6 @@
 -- What is known of a hull while it is found. No public clause cites this module.
 use Rattle.std.specs.List.{Contains}
-use Rattle.std.specs.Prelude.{◌≡◌, ◌≢◌, ◌↔◌, ℕ, ◌+◌, ◌*◌, ◌/◌, ◌%◌, ◌<◌, ◌≤◌, List, [], length, slice_index, slice_index_or}
+use Rattle.std.specs.Prelude.{◌≡◌, ◌≢◌, ◌↔◌, ℕ, ◌+◌, ◌*◌, ◌/◌, ◌%◌, ◌<◌, ◌≤◌, List, [], ◌++◌, length, reverse, slice_index, slice_index_or}
 use Rattle.std.specs.Prelude.{Result, Ok, Err, Vec}
 use Rattle.std.specs.declared.alloc.Global.{Global}
 use Rattle.plane.specs.Pairs.{pair_at}
@@ -55,6 +55,13 @@ IsChainAt ring points numbers k =
 pub record AreChains (ring points : List Point) (numbers : List ℕ) (n : ℕ) (chains : List (List Point)) : Type 0 where
   pub count : length chains ≡ n
   pub each : (k : ℕ) → k < n → IsChainAt ring points numbers k (slice_index_or chains k [])
+
+-- after the chains of r rows of m places come c chains more: those at place r of these rows, read backward
+pub record AreTurned (m r c : ℕ) (chains chains' : List (List Point)) : Type 0 where
+  pub back : List (List Point)
+  pub appended : chains' ≡ chains ++ back
+  pub count : length back ≡ c
+  pub each : (k : ℕ) → k < c → slice_index_or back k [] ≡ reverse (slice_index_or chains (k * m + r) [])
 
 -- the table of the chains between each two of the numbered points
 pub record IsNumberedTable (ring points : List Point) (numbers : List ℕ) (table : Table) : Type 0 where

@@ -1,5 +1,5 @@
 // The relative hull of some points in the polygon, and its round.
-ghost use Rattle.std.specs.Prelude.{◌≡◌, ◌↔◌, ◌≤◌, ◌<◌, ◌+◌, ◌*◌, ℕ, List, IfOk, IsTrue, length, map, reverse, slice_index};
+ghost use Rattle.std.specs.Prelude.{◌≡◌, ◌↔◌, ◌≤◌, ◌<◌, ◌+◌, ◌*◌, ℕ, List, IfOk, IsTrue, OnOk, length, map, reverse, slice_index, vec_capacity};
 ghost use Rattle.plane.specs.Point.{Point};
 ghost use Rattle.plane.specs.declared.limits.TheConstants.{MAX_HULL};
 ghost use Rattle.rings.specs.Chain.{point_at};
@@ -9,11 +9,12 @@ ghost use Rattle.rel_hull.specs.Table.{AreSides, table_points};
 ghost use Rattle.geo_session.specs.Hull.{AreFirsts, AreSidesOf};
 ghost use Rattle.geo_session.specs.Paced.{hull_steps, round_steps};
 ghost use Rattle.geo_session.specs.Round.{AreRound};
-ghost use Rattle.geo_session.specs.Span.{AreChains, AreHeld, AreLocated, AreNumbered, AreSidesTold, IsChainAt, IsNumberedTable, IsRepeated, IsShortPath, IsSideTold, IsSpan};
+ghost use Rattle.geo_session.specs.Span.{AreHeld, AreLocated, AreNumbered, AreSidesTold, AreTurned, IsNumberedTable, IsRepeated, IsSideTold, IsSpan};
 ghost use Rattle.geo_session.specs.Told.{RepliesWithin, Tells};
 
 use crate::held::Held;
 use exact_plane::{Memory, Pt, Steps, order};
+use funnel_walk::paths_from;
 use geo_reply::{Reply, Row, Side};
 use geo_text::{Bad, Version};
 use rel_hull::{ChainTable, round, sides};
@@ -135,61 +136,26 @@ impl Held {
         ensures table { IfOk result (IsNumberedTable self.now.ring.corners points.now numbers.now) }
         ensures steps { steps.new ≤ steps.old + length numbers.now * length numbers.now * (4 * length self.now.ring.corners) }
     {
-        let m = numbers.len();
-        let mut chains = Vec::with_capacity(alloc, m * m)?;
-        for k in 0..m * m {
-            let chain = self.next_chain(alloc, points, tris, numbers, &chains, steps)?;
-            chains.push_reserved(chain);
-        }
-        Ok(ChainTable::of(&self.ring, m as u32, chains))
-    }
-
-    // The next path of the table, from the point of its row to that of its column. It is read off the path back, if that stands.
-    fn next_chain<L: Ledger>(
-        &self,
-        alloc: Global,
-        points: &[Pt],
-        tris: &[u32],
-        numbers: &[u32],
-        chains: &[Vec<Pt>],
-        steps: &mut Steps<L>,
-    ) -> Result<Vec<Pt>, Memory>
-        requires held { AreHeld self.now.ring.corners self.now.tris points.now (length points.now) tris.now }
-        requires firsts { AreFirsts points.now numbers.now }
-        requires few { length numbers.now ≤ MAX_HULL }
-        requires before { AreChains self.now.ring.corners points.now numbers.now (length chains.now) (map (λ chain. chain.items) chains.now) }
-        requires next { length chains.now < length numbers.now * length numbers.now }
-        ensures chain { IfOk result (λ chain. IsChainAt self.now.ring.corners points.now numbers.now (length chains.now) chain.items) }
-        ensures steps { steps.new ≤ steps.old + 4 * length self.now.ring.corners }
-    {
         let _ring_is_simple = self.ring.len();
         let m = numbers.len();
-        let (s, t) = (chains.len() / m, chains.len() % m);
-        match chains.get(t * m + s) {
-            Some(back) => reversed(alloc, back),
-            None => self.chain(alloc, points, tris, (numbers[s], numbers[t]), steps),
+        let homes = at_places(alloc, tris, numbers)?;
+        let ends = points_at(alloc, points, numbers)?;
+        let mut chains = Vec::with_capacity(alloc, m * m)?;
+        for r in 0..m {
+            put_back(alloc, m, r, &mut chains)?;
+            let mut paths = paths_from(
+                alloc,
+                &self.ring,
+                &self.mesh,
+                homes[r],
+                &ends[r],
+                &homes[r..],
+                &ends[r..],
+                steps,
+            )?;
+            chains.append(&mut paths)?;
         }
-    }
-
-    // The path from one point to another, in no more room than it takes.
-    fn chain<L: Ledger>(
-        &self,
-        alloc: Global,
-        points: &[Pt],
-        tris: &[u32],
-        ends: (u32, u32),
-        steps: &mut Steps<L>,
-    ) -> Result<Vec<Pt>, Memory>
-        requires held { AreHeld self.now.ring.corners self.now.tris points.now (length points.now) tris.now }
-        requires start { ends.0 < length points.now }
-        requires end { ends.1 < length points.now }
-        ensures path { IfOk result (λ chain. IsShortPath self.now.ring.corners (point_at points.now ends.0) (point_at points.now ends.1) chain.items) }
-        ensures steps { steps.new ≤ steps.old + 4 * length self.now.ring.corners }
-    {
-        let (i, j) = (ends.0 as usize, ends.1 as usize);
-        let ends = (tris[i], tris[j]);
-        let chain = self.path_between(alloc, Version::One, ends, &points[i], &points[j], steps)?;
-        Ok(chain.to_vec(alloc)?)
+        Ok(ChainTable::of(&self.ring, m as u32, chains))
     }
 
     // The sides between the numbered points at these places.
@@ -232,6 +198,23 @@ impl Held {
         let path = Row::of(self.shown(alloc, version, tris, chain, steps)?);
         Ok(Side { start, end, path })
     }
+}
+
+// Appends the paths from the point of row `r` to those before it. They are read off the paths back, in the rows before of a table
+// with `m` columns.
+fn put_back(alloc: Global, m: usize, r: usize, chains: &mut Vec<Vec<Pt>>) -> Result<(), Memory>
+    requires row { r < m }
+    requires few { m ≤ MAX_HULL }
+    requires rows { length chains.old.items ≡ r * m }
+    requires room { m * m ≤ vec_capacity chains.old }
+    ensures turned { OnOk result (AreTurned m r r (map (λ chain. chain.items) chains.old.items) (map (λ chain. chain.items) chains.new.items)) }
+    ensures same_room { vec_capacity chains.new ≡ vec_capacity chains.old }
+{
+    for c in 0..r {
+        let back = reversed(alloc, &chains[c * m + r])?;
+        chains.push_reserved(back);
+    }
+    Ok(())
 }
 
 // The points in the other order.
@@ -281,6 +264,18 @@ fn at_places(alloc: Global, numbers: &[u32], places: &[u32]) -> Result<Vec<u32>,
     let mut found = Vec::with_capacity(alloc, places.len())?;
     for place in places {
         found.push_reserved(numbers[*place as usize]);
+    }
+    Ok(found)
+}
+
+// The points at these places.
+fn points_at(alloc: Global, points: &[Pt], places: &[u32]) -> Result<Vec<Pt>, Memory>
+    requires { (k : ℕ) → k < length places.now → slice_index places.now k < length points.now }
+    ensures { IfOk result (λ found. found.items ≡ map (point_at points.now) places.now) }
+{
+    let mut found = Vec::with_capacity(alloc, places.len())?;
+    for place in places {
+        found.push_reserved(points[*place as usize]);
     }
     Ok(found)
 }
