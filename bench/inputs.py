@@ -188,9 +188,11 @@ def way_along_comb(n: int) -> Ring:
 
 
 def corners_of_comb(n: int, count: int) -> Ring:
-    """So many corners of the comb round which no path bends, half of them at each end."""
+    """So many corners of the comb round which no path bends, half of them at each end, and in turn from there inward. The last one is
+    walked to first, so that few walks come by other corners that are still to be walked to."""
     outer = [(4 * i, 8 * (i % 2)) for i in range(n // 2)]
-    return outer[:count // 2] + outer[-(count // 2):]
+    ends = zip(outer[:count // 2], reversed(outer[-(count // 2):]))
+    return [corner for both in ends for corner in both]
 
 
 def way_through_saw(n: int) -> Ring:
