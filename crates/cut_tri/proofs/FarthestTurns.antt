@@ -1,5 +1,5 @@
 -- At the farthest vertex in the triangle at its first vertex a simple ring does not turn left.
-use Rattle.std.proofs.Common.{◌≡◌, ◌⊎◌, inl, inr, [], ◌∷◌, ◌++◌, refl, sym, ap, subst, ◌∙◌, ◌+◌, ◌-◌, ◌≤◌, ℤ, pos, ◌+ℤ◌, ◌-ℤ◌, ◌*ℤ◌}
+use Rattle.std.proofs.Common.{◌≡◌, inl, inr, [], ◌∷◌, ◌++◌, refl, ap, subst, ◌∙◌, ◌+◌, ◌-◌, ◌≤◌, ℤ, pos, ◌+ℤ◌, ◌-ℤ◌, ◌*ℤ◌}
 use Rattle.std.proofs.Common.{◌<ℤ◌, ◌≤ℤ◌, List, length, arith}
 use Rattle.std.proofs.lemmas.Int.{ints}
 use Rattle.std.proofs.lemmas.List.{length-append}
@@ -11,15 +11,15 @@ use Rattle.plane.specs.Point.{Point, whole}
 use Rattle.plane.specs.Triangle.{height_over}
 use Rattle.plane.specs.Turn.{IsLeft, determinant}
 use Rattle.rings.proofs.Simple.{apart_of_simple}
-use Rattle.rings.proofs.Vertices.{Farthest, HasPoint, distinct_between, edge_from, end_of_ring, has_cases, has_left, number_of, vertex_in_range}
+use Rattle.rings.proofs.Vertices.{Farthest, has_left, number_of, vertex_in_range}
 use Rattle.rings.specs.Edge.{HasEdge, edge, edges_of}
 use Rattle.rings.specs.Ring.{origin, vertex}
 use Rattle.rings.specs.Simple.{IsSimple}
 use Rattle.rings.specs.Winding.{RunsCounterclockwise}
 use Rattle.ring_laws.proofs.Cuts.{least_turn}
 use Rattle.ring_laws.proofs.Diagonals.{diagonal_backward, farthest_diagonal}
-use Rattle.ring_laws.proofs.Ears.{NoneBefore, distinct_corner, has_edge_of_corner, is_corner}
-use Rattle.ring_laws.proofs.Simple.{InTriangle, height}
+use Rattle.ring_laws.proofs.Ears.{NoneBefore, is_corner}
+use Rattle.ring_laws.proofs.Simple.{InTriangle, height, is_farthest_end}
 use Rattle.ring_laws.proofs.Triangles.{IsFarthestEnd, farthest_below, farthest_beside, farthest_between}
 use Rattle.ring_laws.proofs.Vertices.{edges_at}
 use Rattle.cut_tri.proofs.TurnsBesideDiagonals.{diagonal_beside}
@@ -88,29 +88,7 @@ module _ (v w : Point) (ms : List Point) (u : Point) (simple : IsSimple (v ∷ w
 
   -- it is the farthest end of edges
   is_end : IsFarthestEnd (edges_of ring) u v w far.point
-  is_end =
-      let differ = distinct_corner v w ms u (apart_of_simple ring simple) in
-      let in_rest = has_left far.point ms (u ∷ []) far.has_point in
-      let (e, has, from) = edge_from far.point w ms u (inr far.has_point) in
-      record {
-        in_triangle = far.chosen;
-        not_u = λ is. distinct_between ms (u ∷ []) differ.1.1 far.point far.has_point (inl (sym is));
-        not_v = λ is. differ.0 (inr (subst (HasPoint (ms ++ u ∷ [])) is in_rest));
-        not_w = λ is. differ.1.0 (subst (HasPoint (ms ++ u ∷ [])) is in_rest);
-        with_edge = e;
-        has_edge = has_edge_of_corner v w ms u e (inr (inr has));
-        is_end = inl from;
-        farthest = λ f y has_f end within. go y (end_of_ring f y v (w ∷ (ms ++ u ∷ [])) has_f end) within;
-      }
-    where
-      go : (y : Point) → HasPoint (v ∷ w ∷ (ms ++ u ∷ [])) y → InTriangle u v w y
-          → (y ≡ u) ⊎ (y ≡ v) ⊎ (y ≡ w) ⊎ (height u w y ≤ℤ height u w far.point)
-      go y (inl is) within = inr (inl (sym is))
-      go y (inr (inl is)) within = inr (inr (inl (sym is)))
-      go y (inr (inr h)) within = elim (has_cases y ms (u ∷ []) h) [
-        | inl k ↦ inr (inr (inr (far.farthest y k within)))
-        | inr k ↦ elim k [ inl is ↦ inl (sym is) | inr nothing ↦ absurd nothing ]
-      ]
+  is_end = is_farthest_end v w ms u (apart_of_simple ring simple) far
 
   -- the segments from v to it and back are strictly between the edges at v
   pub between_edges : IsLeft (whole u) (whole v) (whole far.point) × IsLeft (whole far.point) (whole v) (whole w)

@@ -21,27 +21,25 @@ some_weight k l m w C D hk hw hl hm e = go (sign (l +ℤ m))
 
 -- weights that are not negative, and not both 0
 module _ (l m : ℤ) (hl : pos 0 ≤ℤ l) (hm : pos 0 ≤ℤ m) (some : pos 0 <ℤ (l +ℤ m)) where
-  -- the sum of two positive numbers with such weights is positive
-  pub weighted_positive : (u s : ℤ) → pos 0 <ℤ u → pos 0 <ℤ s → pos 0 <ℤ (l *ℤ u +ℤ m *ℤ s)
-  weighted_positive u s h k = go (sign l)
-    where
-      go : Sign l → pos 0 <ℤ (l *ℤ u +ℤ m *ℤ s)
-      go (is_negative n) = absurd (omega (arith, ints))
-      go (is_zero z) =
-          let none : l *ℤ u ≡ pos 0 = ap (λ x. x *ℤ u) z ∙ zero-mul u in
-          omega (arith, ints, mul_positive m s (omega (arith, ints)) k)
-      go (is_positive n) = omega (arith, ints, mul_positive l u n h, mul_nonnegative m s hm (omega (arith, ints)))
-
-  -- where the first weight gives nothing to a positive number, it is 0, and the second counts
-  pub first_counts_nothing : (u v t : ℤ) → l *ℤ u ≡ pos 0 → pos 0 <ℤ u → pos 0 <ℤ t → pos 0 <ℤ (l *ℤ v +ℤ m *ℤ t)
-  first_counts_nothing u v t e h k = go (sign l)
+  -- a weighted sum is positive where it is so with a positive first weight: where that is 0, the second counts
+  by_first_weight : (v t : ℤ) → pos 0 <ℤ t → (pos 0 <ℤ l → pos 0 <ℤ (l *ℤ v +ℤ m *ℤ t)) → pos 0 <ℤ (l *ℤ v +ℤ m *ℤ t)
+  by_first_weight v t k counts = go (sign l)
     where
       go : Sign l → pos 0 <ℤ (l *ℤ v +ℤ m *ℤ t)
       go (is_negative n) = absurd (omega (arith, ints))
       go (is_zero z) =
           let none : l *ℤ v ≡ pos 0 = ap (λ x. x *ℤ v) z ∙ zero-mul v in
           omega (arith, ints, mul_positive m t (omega (arith, ints)) k)
-      go (is_positive n) = absurd (omega (arith, ints, mul_positive l u n h))
+      go (is_positive n) = counts n
+
+  -- the sum of two positive numbers with such weights is positive
+  pub weighted_positive : (u s : ℤ) → pos 0 <ℤ u → pos 0 <ℤ s → pos 0 <ℤ (l *ℤ u +ℤ m *ℤ s)
+  weighted_positive u s h k =
+      by_first_weight u s k (λ n. omega (arith, ints, mul_positive l u n h, mul_nonnegative m s hm (omega (arith, ints))))
+
+  -- where the first weight gives nothing to a positive number, it is 0, and the second counts
+  pub first_counts_nothing : (u v t : ℤ) → l *ℤ u ≡ pos 0 → pos 0 <ℤ u → pos 0 <ℤ t → pos 0 <ℤ (l *ℤ v +ℤ m *ℤ t)
+  first_counts_nothing u v t e h k = by_first_weight v t k (λ n. absurd (omega (arith, ints, mul_positive l u n h)))
 
 -- a vector points forward in the order of points
 abbrev pub Forward : ℤ → ℤ → Type 0

@@ -1,7 +1,7 @@
 -- The theorem of simple rings: they wind once.
 
-pub use Rattle.ring_laws.proofs.Simple.SimpleRings.{InTriangle, height, apart_regrouped, farthest_cut, first_runs, left_turn_law}
-pub use Rattle.ring_laws.proofs.Simple.SimpleRings.{ring_regrouped, runs_round, second_runs, simple_ring_law, triangle_law, winds_once}
+pub use Rattle.ring_laws.proofs.Simple.SimpleRings.{InTriangle, apart_regrouped, farthest_cut, first_runs, height, is_farthest_end}
+pub use Rattle.ring_laws.proofs.Simple.SimpleRings.{left_turn_law, ring_regrouped, runs_round, second_runs, simple_ring_law, triangle_law, winds_once}
 -- The cut of a ring from its first vertex v to the farthest vertex in the triangle there, and the two pieces.
 -- The theorem of simple rings: a ring runs round once, as it turns at its least vertex.
 mod SimpleRings

@@ -1,6 +1,6 @@
 -- A tiled piece that a shared side cuts in two parts: where the triangles of each part are a tree, two fewer than it has vertices, so are
 -- those of the piece.
-use Rattle.std.proofs.Common.{◌≡◌, ◌⊎◌, inl, inr, refl, sym, subst, ℕ, ◌+◌, List, length, arith}
+use Rattle.std.proofs.Common.{◌≡◌, ◌⊎◌, inl, inr, sym, subst, ℕ, ◌+◌, List, length, arith}
 use Rattle.plane.specs.Point.{Point}
 use Rattle.ring_laws.proofs.Diagonals.{AreBoth}
 use Rattle.meshes.proofs.Boundaries.Counts.{HoldsOf, same_count, sum_count}
@@ -9,7 +9,7 @@ use Rattle.meshes.proofs.Boundaries.CutTilings.{CoverPiece, IsBeside, IsPartOf, 
 use Rattle.meshes.proofs.Boundaries.TiledParts.{lies_cases, lies_once}
 use Rattle.meshes.proofs.Joins.{Both, IsBridge, between_at, between_back, joined_tree}
 use Rattle.meshes.proofs.Parts.{IsShared, shared_is_this}
-use Rattle.meshes.proofs.Walks.{IsTreeOn, Renames, Touch, share_back, tree_renamed}
+use Rattle.meshes.proofs.Walks.{IsTreeOn, Touch, share_back, tree_of_same}
 use Rattle.meshes.specs.Fits.{piece_points}
 use Rattle.meshes.specs.Side.{HasSideBetween, ShareSide, tri_at}
 use Rattle.meshes.specs.declared.tri.Tri.{Tri}
@@ -83,16 +83,6 @@ module _ (corners : List Point) (piece : List ℕ) (tris : List Tri) (P : ℕ �
     | inr lies ↦ inr (within, lies)
   ]
 
-  both_are : Renames (Both Here There) (Touch tris) P (Touch tris) (λ o. o) (λ o. o)
-  both_are = record {
-    goes = in_both;
-    comes = in_one;
-    there = λ o i. refl;
-    back = λ o i. refl;
-    joins = λ x y in_x in_y t. t;
-    joined = λ x y in_x in_y t. t;
-  }
-
   -- so two trees are one tree
   pub tree_of_parts : (p q r : ℕ) → p + q ≡ r + 2 → IsTreeFor tris Here p → IsTreeFor tris There q → IsTreeFor tris P r
   tree_of_parts p q r sum first second = record {
@@ -102,6 +92,6 @@ module _ (corners : List Point) (piece : List ℕ) (tris : List Tri) (P : ℕ �
         (sum_count Here There apart (length tris) first.count second.count first.counted second.counted);
     two_fewer = omega (arith, first.two_fewer, second.two_fewer);
     tree =
-        tree_renamed (Both Here There) (Touch tris) P (Touch tris) (λ o. o) (λ o. o) both_are
+        tree_of_same (Both Here There) P (Touch tris) in_both in_one
         (joined_tree Here There (Touch tris) (λ x y t. share_back (tri_at tris x) (tri_at tris y) t) m n diagonal_bridge first.tree second.tree);
   }

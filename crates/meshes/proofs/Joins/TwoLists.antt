@@ -3,7 +3,7 @@ use Rattle.std.proofs.Common.{◌≡◌, ◌⊎◌, inl, inr, refl, sym, ap, sub
 use Rattle.std.proofs.lemmas.Bool.{cases_lt}
 use Rattle.std.proofs.lemmas.List.{get_or-append-add, get_or_append_left, length-append}
 use Rattle.meshes.proofs.Joins.JoinedTrees.{Both, IsBridge, joined_tree}
-use Rattle.meshes.proofs.Walks.{Renames, tree_renamed, IsPlace, Touch, share_back, tree_of_paths, tree_of_walks}
+use Rattle.meshes.proofs.Walks.{Renames, tree_of_same, tree_renamed, IsPlace, Touch, share_back, tree_of_paths, tree_of_walks}
 use Rattle.meshes.specs.Side.{IsTree, ShareSide, tri_at}
 use Rattle.meshes.specs.declared.tri.Tri.{Tri}
 
@@ -117,16 +117,6 @@ module _ (ts us : List Tri) where
     | inr past ↦ inr (past, omega (arith, length-append ts us))
   ]
 
-  both_renamed : Renames (Both (IsPlace ts) (IsLater ts us)) (Touch (ts ++ us)) (IsPlace (ts ++ us)) (Touch (ts ++ us)) (λ k. k) (λ k. k)
-  both_renamed = record {
-    goes = both_goes;
-    comes = both_comes;
-    there = λ a h. refl;
-    back = λ a h. refl;
-    joins = λ a b h k s. s;
-    joined = λ a b h k s. s;
-  }
-
 -- triangle k of the first list and triangle l of the second share a side, and no others across the lists do
 pub record ShareOneSide (ts us : List Tri) (k l : ℕ) : Type 0 where
   pub in_first : k < length ts
@@ -163,4 +153,4 @@ module _ (ts us : List Tri) (k l : ℕ) (s : ShareOneSide ts us k l) where
       let q = tree_renamed (IsPlace us) (Touch us) Q R (λ n. length ts + n) (λ n. n - length ts) (second_renamed ts us) (tree_of_walks us second) in
       let both = joined_tree P Q R (λ a b t. share_back _ _ t) k (length ts + l) bridge p q in
       tree_of_paths (ts ++ us)
-      (tree_renamed (Both P Q) R (IsPlace (ts ++ us)) R (λ n. n) (λ n. n) (both_renamed ts us) both)
+      (tree_of_same (Both P Q) (IsPlace (ts ++ us)) R (both_goes ts us) (both_comes ts us) both)

@@ -92,3 +92,9 @@ tree_renamed P R Q S f g r tree a c at_a at_c =
           let back = path_renamed Q S P R g f (renames_back P R Q S f g r) a other c at_a p in
           sym (names_back P R Q S f g r a other c p) ∙ ap (map f) (one.only (map g other) back);
     }
+
+-- and where the same numbers are told otherwise
+pub tree_of_same : (P Q : ℕ → Type 0) (R : ℕ → ℕ → Type 0) → ((a : ℕ) → P a → Q a) → ((a : ℕ) → Q a → P a) → IsTreeOn P R → IsTreeOn Q R
+tree_of_same P Q R goes comes =
+    tree_renamed P R Q R (λ a. a) (λ a. a)
+    (record { goes = goes; comes = comes; there = λ a h. refl; back = λ a h. refl; joins = λ a b h k r. r; joined = λ a b h k r. r })
