@@ -22,7 +22,10 @@ use std::cmp::Ordering;
 use std::sync::ledger::Ledger;
 
 // How many vertices are looked at before the clusters are asked.
-const NEAR: usize = 16;
+const NEAR: usize = 8;
+
+// Where no more than so many can be in the triangle, all are looked at, since to ask takes as long as to look at some 50.
+const FAR: usize = 56;
 
 // The triangle at the first vertex v of a piece, counterclockwise: the later of u and w, and how far v is from the line
 // through them.
@@ -98,7 +101,7 @@ fn best_in<L: Ledger>(
     let last = piece.order.len() - 1;
     let mut best: Option<Candidate> = None;
     for rank in 1..piece.order.len() {
-        if corner.is_told_empty(alloc, ring, rank, best, clusters, steps) {
+        if corner.is_told_empty(alloc, ring, piece, rank, best, clusters, steps) {
             return None;
         }
         let number = piece.order[last - rank];
@@ -215,11 +218,12 @@ impl Corner {
     }
 
     // Whether the clusters tell that no vertex of the ring but the three is in the triangle, convex ones aside. They are asked at one
-    // rank alone, where none was found before.
+    // rank alone, where none was found before, and the search does not end soon.
     fn is_told_empty<L: Ledger>(
         &self,
         alloc: Global,
         ring: &Ring,
+        piece: &Piece,
         rank: usize,
         best: Option<Candidate>,
         clusters: &mut Option<Clusters>,
@@ -229,19 +233,34 @@ impl Corner {
         requires clusters { IfSome clusters.old (AreClusters ring.now.corners) }
         ensures empty { IsTrue result → CandidatesTurnLeft self.now ring.now.corners }
         ensures clusters { IfSome clusters.new (AreClusters ring.now.corners) }
-        ensures near { IsTrue result → rank ≡ 16 }
-        ensures before { rank < 16 → steps.new ≡ steps.old }
-        ensures behind { 16 < rank → steps.new ≡ steps.old }
+        ensures near { IsTrue result → rank ≡ 8 }
+        ensures before { rank < 8 → steps.new ≡ steps.old }
+        ensures behind { 8 < rank → steps.new ≡ steps.old }
         ensures steps { steps.new ≤ steps.old + (371 * length ring.now.corners + 1168) }
     {
         if rank != NEAR || best.is_some() {
             return false;
         }
+        if self.ends_soon(ring, piece, steps) {
+            return false;
+        }
         self.is_empty(alloc, ring, clusters, steps)
     }
 
+    // Whether the search ends soon: the order does, or the vertex at a later rank is right of the triangle. It takes at most one step.
+    fn ends_soon<L: Ledger>(&self, ring: &Ring, piece: &Piece, steps: &mut Steps<L>) -> bool
+        ensures { steps.new ≤ steps.old + 1 }
+    {
+        let size = piece.order.len();
+        if size <= FAR {
+            return true;
+        }
+        let number = piece.order[size - 1 - FAR];
+        number < ring.len() && order(&self.end, &ring.corner(number), steps) == Ordering::Less
+    }
+
     // Whether no vertex of the ring but the three is in the triangle, convex ones aside, by clusters that are made here where there are
-    // none. Without memory for them it is taken for not empty. It takes at most 371 steps a vertex of the ring, and 1168.
+    // none. Without memory for them it is taken for not empty. It takes at most 371 steps a vertex of the ring, and 1167.
     fn is_empty<L: Ledger>(
         &self,
         alloc: Global,
@@ -253,7 +272,7 @@ impl Corner {
         requires clusters { IfSome clusters.old (AreClusters ring.now.corners) }
         ensures empty { IsTrue result → CandidatesTurnLeft self.now ring.now.corners }
         ensures clusters { IfSome clusters.new (AreClusters ring.now.corners) }
-        ensures steps { steps.new ≤ steps.old + (371 * length ring.now.corners + 1168) }
+        ensures steps { steps.new ≤ steps.old + (371 * length ring.now.corners + 1167) }
     {
         make_clusters(alloc, ring, clusters, steps);
         match &*clusters {

@@ -17,11 +17,11 @@ use Rattle.cut_tri.proofs.farthest.best_in.Goals as goal
 use Rattle.cut_tri.proofs.farthest.best_in.Goals.{in-Some, in_default}
 
 -- the steps so far, where the clusters are asked at one rank alone
-steps_so_far : (rank few most old new : ℕ) → (rank ≤ 16 → old ≤ few) → old ≤ few + most → (rank < 16 → new ≡ old) → (16 < rank → new ≡ old)
-    → new ≤ old + most → (rank + 1 ≤ 16 → new ≤ few) × (new ≤ few + most)
+steps_so_far : (rank few most old new : ℕ) → (rank ≤ 8 → old ≤ few) → old ≤ few + most → (rank < 8 → new ≡ old) → (8 < rank → new ≡ old)
+    → new ≤ old + most → (rank + 1 ≤ 8 → new ≤ few) × (new ≤ few + most)
 steps_so_far rank few most old new is_few is_most before behind after = (
   λ below. omega (arith, is_few (omega (arith, below)), before (omega (arith, below))),
-  elim (cases_lt 16 rank) [
+  elim (cases_lt 8 rank) [
     | inl less ↦ omega (arith, behind less, is_most)
     | inr near ↦ omega (arith, is_few near, after)
   ],
