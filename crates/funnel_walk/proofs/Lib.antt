@@ -1,3 +1,4 @@
+mod AllNumbers
 mod Appended
 mod Closed
 mod CrossedSides
@@ -6,6 +7,7 @@ mod FirstNamed
 mod FoundPaths
 mod ShortPaths
 mod ShortWalks
+mod KeptFronts
 mod KeptNames
 mod PathNames
 mod NarrowedLeft

@@ -1,3 +1,4 @@
+pub mod Fronts
 pub mod Names
 pub mod Several
 pub mod Walked

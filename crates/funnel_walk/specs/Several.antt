@@ -1,4 +1,5 @@
 -- Paths from one point to several, of which some are found. This project's own.
+use Rattle.std.specs.List.{All, Contains}
 use Rattle.std.specs.Prelude.{◌≡◌, ◌⊎◌, ℕ, ◌+◌, ◌-◌, ◌*◌, ◌<◌, ◌≤◌, List, [], ◌∷◌, length, map, slice_index, slice_index_or, Vec}
 use Rattle.std.specs.declared.alloc.Global.{Global}
 use Rattle.plane.specs.Point.{Point, whole}
@@ -49,6 +50,11 @@ pub record FindsPaths (corners : List Point) (s : Point) (points : List Point) (
   pub so_far : ArePathsSoFar corners s points found'
   pub kept : KeepsPaths found found'
   pub paid : steps' + missing found' * cost ≤ steps + missing found * cost
+
+-- all numbers below n, and no other
+pub record AreAllNumbers (n : ℕ) (numbers : List ℕ) : Type 0 where
+  pub below : All (λ k. k < n) numbers
+  pub each : (k : ℕ) → k < n → Contains numbers k
 
 -- each point whose triangle has the side has its path
 abbrev pub AreServed : List Tri → List ℕ → ℕ → ℕ → ℕ → List (List Point) → Type 0

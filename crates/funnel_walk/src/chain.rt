@@ -77,11 +77,11 @@ fn walk_on<T: Turns, L: Ledger>(
     ensures same_out { vec_capacity out.new ≡ vec_capacity out.old }
     ensures steps { steps.new ≤ steps.old + 2 * (length sleeve.now.diagonals + 2) }
 {
-    let given = out.len();
-    let mut apex = open(names, board, mesh, sleeve, steps);
-    for i in 1..sleeve.len() {
-        apex = cross(names, board, mesh, sleeve, i, apex, given, out, steps);
-    }
+    let (given, last) = (out.len(), sleeve.len() - 1);
+    let first = open(names, board, mesh, sleeve, steps);
+    let apex = go_on(
+        names, board, mesh, sleeve, 0, last, first, given, out, steps,
+    );
     reach_goal(board, names, apex, given, out, steps);
 }
 
@@ -118,9 +118,48 @@ pub(crate) fn open<T: Turns, L: Ledger>(
     apex
 }
 
+// The funnel of diagonal `to`, from that of diagonal `from`. What comes to `out` after the first `given` names is on the way to its
+// apex.
+pub(crate) fn go_on<T: Turns, L: Ledger>(
+    names: &mut HeapCircularBuffer<Spot>,
+    board: &T,
+    mesh: &Mesh,
+    sleeve: &Sleeve,
+    from: usize,
+    to: usize,
+    apex: usize,
+    given: usize,
+    out: &mut Vec<Spot>,
+    steps: &mut Steps<L>,
+) -> usize
+    requires fits { Fits (T.corners board.now) mesh.now }
+    requires of_mesh { IsOneOf mesh.now sleeve.now }
+    requires forward { from ≤ to }
+    requires within { to < length sleeve.now.diagonals }
+    requires given { given ≤ length out.old.items }
+    requires walked { IsWalked (T.corners board.now) (T.start board.now) (T.goal board.now) (drop given out.old.items) names.old.items apex
+        (diagonal_at sleeve.now from).left (diagonal_at sleeve.now from).right }
+    requires room { length out.old.items + length names.old.items + to ≤ names.old.capacity + given + from }
+    requires out_room { length out.old.items + length names.old.items + to ≤ vec_capacity out.old + from }
+    ensures walked { IsWalked (T.corners board.now) (T.start board.now) (T.goal board.now) (drop given out.new.items) names.new.items result
+        (diagonal_at sleeve.now to).left (diagonal_at sleeve.now to).right }
+    ensures before { take given out.new.items ≡ take given out.old.items }
+    ensures given { given ≤ length out.new.items }
+    ensures few { length out.new.items + length names.new.items + from ≤ length out.old.items + length names.old.items + to }
+    ensures same_room { names.new.capacity ≡ names.old.capacity }
+    ensures same_out { vec_capacity out.new ≡ vec_capacity out.old }
+    ensures steps { steps.new + length names.new.items + 2 * from ≤ steps.old + length names.old.items + 2 * to }
+{
+    let mut apex = apex;
+    for i in from..to {
+        apex = cross(names, board, mesh, sleeve, i + 1, apex, given, out, steps);
+    }
+    apex
+}
+
 // The funnel of diagonal `i`, from that of the one before. What comes to `out` after the first `given` names is on the way to
 // its apex.
-pub(crate) fn cross<T: Turns, L: Ledger>(
+fn cross<T: Turns, L: Ledger>(
     names: &mut HeapCircularBuffer<Spot>,
     board: &T,
     mesh: &Mesh,

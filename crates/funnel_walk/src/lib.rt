@@ -2,7 +2,10 @@
 #![tactic(auto)]
 
 mod chain;
+mod front;
 mod funnel;
+mod marks;
+mod outward;
 mod room;
 mod several;
 

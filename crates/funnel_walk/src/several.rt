@@ -1,4 +1,5 @@
 // The paths from one point to several, by walks that are shared.
+ghost use Rattle.std.specs.List.{All};
 ghost use Rattle.std.specs.Prelude.{◌≡◌, ◌+◌, ◌-◌, ◌*◌, ◌^◌, ◌<◌, ◌≤◌, ◌↔◌, ℕ, [], IfOk, IsTrue, OnOk, length, slice_index, slice_index_or, slice_set, vec_capacity};
 ghost use Rattle.plane.specs.Point.{whole};
 ghost use Rattle.rings.specs.Chain.{IsPath, point_at};
@@ -7,10 +8,14 @@ ghost use Rattle.meshes.specs.Side.{HasSide, tri_at};
 ghost use Rattle.meshes.specs.Sleeve.{IsOneOf, diagonal_at};
 ghost use Rattle.exact_plane.specs.Names.{AppendsNames, AreNamed, named_points};
 ghost use Rattle.exact_plane.specs.Spot.{point_named};
+ghost use Rattle.funnel_walk.specs.Fronts.{IsFront, GoesThrough};
 ghost use Rattle.funnel_walk.specs.Several.{AreInTris, ArePathsFrom, ArePathsSoFar, AreServed, FindsPaths, IsPathOfFewPoints, listed, missing};
 ghost use Rattle.funnel_walk.specs.Walked.{HasArrived, IsWalked};
 
-use crate::chain::{cross, open, reach_goal, walk};
+use crate::chain::{reach_goal, walk};
+use crate::front::Front;
+use crate::marks::Marks;
+use crate::outward::outermost_first;
 use crate::room::FunnelBox;
 use circular_buffer::HeapCircularBuffer;
 use dual_tree::{Board, sleeve};
@@ -32,7 +37,8 @@ struct Stops<'a> {
 }
 
 /// The paths from a point in triangle `home` to some points in triangles of the mesh, in their order. One walk serves all points
-/// whose triangles it comes through. It takes at most 4 n steps a point, n the number of the ring's vertices.
+/// whose triangles it comes through, and goes on from where another was on its way. It takes at most 4 n steps a point, n the number
+/// of the ring's vertices.
 pub fn paths_from<L: Ledger>(
     alloc: Global,
     ring: &Ring,
@@ -57,13 +63,21 @@ pub fn paths_from<L: Ledger>(
         tris,
         points,
     };
-    let marks = stops.marks(alloc)?;
+    let keys = outermost_first(alloc, mesh, tris)?;
+    let marks = Marks::of(alloc, ring, mesh, home, tris, &keys)?;
     let mut found = none_yet(alloc, points.len())?;
-    for i in 0..points.len() {
-        // The last points first: where they lie in order along a corridor, one walk serves all of them.
-        let k = points.len() - 1 - i;
-        if is_missing(&found, k) {
-            stops.walk_to(alloc, home, k, &marks, &mut found, steps)?;
+    let mut fronts = Vec::new(alloc);
+    for key in &keys {
+        if is_missing(&found, key.number) {
+            stops.walk_to(
+                alloc,
+                home,
+                key.number,
+                &marks,
+                &mut fronts,
+                &mut found,
+                steps,
+            )?;
         }
     }
     Ok(found)
@@ -76,7 +90,8 @@ impl<'a> Stops<'a> {
         alloc: Global,
         home: u32,
         k: usize,
-        marks: &[bool],
+        marks: &Marks,
+        fronts: &mut Vec<Front>,
         found: &mut Vec<Vec<Pt>>,
         steps: &mut Steps<L>,
     ) -> Result<(), Memory>
@@ -86,8 +101,9 @@ impl<'a> Stops<'a> {
         requires held { AreInTris self.now.ring.now.corners self.now.mesh.now self.now.tris.now self.now.points.now }
         requires within { k < length self.now.points.now }
         requires none { length (slice_index_or (listed found.old.items) k []) ≡ 0 }
-        requires marks { length marks.now ≡ length self.now.ring.now.corners }
         requires found { ArePathsSoFar self.now.ring.now.corners self.now.start.now self.now.points.now (listed found.old.items) }
+        requires fronts { All (IsFront self.now.ring.now.corners self.now.start.now) fronts.old.items }
+        ensures fronts { OnOk result (All (IsFront self.now.ring.now.corners self.now.start.now) fronts.new.items) }
         ensures found { OnOk result (FindsPaths self.now.ring.now.corners self.now.start.now self.now.points.now (4 * length self.now.ring.now.corners)
             (listed found.old.items) steps.old (listed found.new.items) steps.new) }
         ensures served { OnOk result (0 < length (slice_index_or (listed found.new.items) k [])) }
@@ -99,7 +115,7 @@ impl<'a> Stops<'a> {
             let path = self.path_at_home(alloc, &sleeve, &self.points[k], steps)?;
             put(found, k, path);
         } else {
-            self.walk_along(alloc, &sleeve, marks, found, steps)?;
+            self.walk_along(alloc, &sleeve, marks, fronts, found, steps)?;
         }
         Ok(())
     }
@@ -127,12 +143,14 @@ impl<'a> Stops<'a> {
         points_of(alloc, &names, &board)
     }
 
-    // Walks along a sleeve, and finds the paths to all points in triangles that are behind marked diagonals, and in the last one.
+    // Walks along a sleeve, from the last of the fronts that it goes through, and finds the paths to all points in triangles that the walk
+    // stops at. Where ways part it leaves a front behind, and one at the end.
     fn walk_along<L: Ledger>(
         &self,
         alloc: Global,
         sleeve: &Sleeve,
-        marks: &[bool],
+        marks: &Marks,
+        fronts: &mut Vec<Front>,
         found: &mut Vec<Vec<Pt>>,
         steps: &mut Steps<L>,
     ) -> Result<(), Memory>
@@ -141,46 +159,84 @@ impl<'a> Stops<'a> {
         requires some { 0 < length sleeve.now.diagonals }
         requires start { IsInTri self.now.ring.now.corners (tri_at self.now.mesh.now (slice_index_or sleeve.now.walk 0 0)) (whole self.now.start.now) }
         requires held { AreInTris self.now.ring.now.corners self.now.mesh.now self.now.tris.now self.now.points.now }
-        requires marks { length marks.now ≡ length self.now.ring.now.corners }
         requires found { ArePathsSoFar self.now.ring.now.corners self.now.start.now self.now.points.now (listed found.old.items) }
+        requires fronts { All (IsFront self.now.ring.now.corners self.now.start.now) fronts.old.items }
+        ensures fronts { OnOk result (All (IsFront self.now.ring.now.corners self.now.start.now) fronts.new.items) }
         ensures found { OnOk result (FindsPaths self.now.ring.now.corners self.now.start.now self.now.points.now (length self.now.ring.now.corners + 1)
             (listed found.old.items) (steps.old + 2 * length self.now.ring.now.corners) (listed found.new.items) steps.new) }
         ensures served { let last = diagonal_at sleeve.now (length sleeve.now.diagonals - 1) in
             OnOk result (AreServed self.now.mesh.now self.now.tris.now last.left last.right (length self.now.points.now) (listed found.new.items)) }
         ensures steps { let n = length self.now.ring.now.corners in steps.new ≤ steps.old + 2 * n + missing (listed found.old.items) * (n + 1) }
     {
-        let _few_vertices = self.ring.len();
-        let board = Board::new(self.ring, *self.start, *self.start);
-        let mut names = HeapCircularBuffer::with_capacity(alloc, sleeve.len() + 4)?;
-        let mut behind = Vec::with_capacity(alloc, sleeve.len() + 4)?;
-        let mut apex = open(&mut names, &board, self.mesh, sleeve, steps);
-        for i in 1..sleeve.len() {
-            if is_marked(marks, sleeve, i - 1) {
-                self.serve(alloc, sleeve, i - 1, &names, apex, &behind, found, steps)?;
+        let mut front = self.front_on(alloc, sleeve, fronts, steps)?;
+        for i in front.at..sleeve.len() {
+            if marks.is_stop(sleeve, i) {
+                front.advance(self.ring, self.mesh, self.start, sleeve, i, steps);
+                self.serve(
+                    alloc,
+                    sleeve,
+                    i,
+                    &front.names,
+                    front.apex,
+                    &front.behind,
+                    found,
+                    steps,
+                )?;
+                self.leave_copy(alloc, marks, sleeve, &front, fronts)?;
             }
-            apex = cross(
-                &mut names,
-                &board,
-                self.mesh,
-                sleeve,
-                i,
-                apex,
-                0,
-                &mut behind,
-                steps,
-            );
         }
-        self.serve(
-            alloc,
-            sleeve,
-            sleeve.len() - 1,
-            &names,
-            apex,
-            &behind,
-            found,
-            steps,
-        )?;
+        if marks.are_some() {
+            fronts.push(front)?;
+        }
         Ok(())
+    }
+
+    // Leaves a copy of the front behind where ways part.
+    fn leave_copy(
+        &self,
+        alloc: Global,
+        marks: &Marks,
+        sleeve: &Sleeve,
+        front: &Front,
+        fronts: &mut Vec<Front>,
+    ) -> Result<(), Memory>
+        requires front { IsFront self.now.ring.now.corners self.now.start.now front.now }
+        requires on { GoesThrough sleeve.now front.now }
+        requires fronts { All (IsFront self.now.ring.now.corners self.now.start.now) fronts.old.items }
+        ensures fronts { OnOk result (All (IsFront self.now.ring.now.corners self.now.start.now) fronts.new.items) }
+    {
+        if marks.is_fork(sleeve, front.at) {
+            let copy = front.copy(alloc, self.ring.len() as usize)?;
+            fronts.push(copy)?;
+        }
+        Ok(())
+    }
+
+    // The last of the fronts that a sleeve goes through, which is taken, while those after it are dropped; the first one where there is
+    // none. It takes at most 2 steps.
+    fn front_on<L: Ledger>(
+        &self,
+        alloc: Global,
+        sleeve: &Sleeve,
+        fronts: &mut Vec<Front>,
+        steps: &mut Steps<L>,
+    ) -> Result<Front, Memory>
+        requires fits { Fits self.now.ring.now.corners self.now.mesh.now }
+        requires of_mesh { IsOneOf self.now.mesh.now sleeve.now }
+        requires some { 0 < length sleeve.now.diagonals }
+        requires start { IsInTri self.now.ring.now.corners (tri_at self.now.mesh.now (slice_index_or sleeve.now.walk 0 0)) (whole self.now.start.now) }
+        requires fronts { All (IsFront self.now.ring.now.corners self.now.start.now) fronts.old.items }
+        ensures front { IfOk result (IsFront self.now.ring.now.corners self.now.start.now) }
+        ensures on { IfOk result (GoesThrough sleeve.now) }
+        ensures fronts { All (IsFront self.now.ring.now.corners self.now.start.now) fronts.new.items }
+        ensures steps { steps.new ≤ steps.old + 2 }
+    {
+        while let Some(front) = fronts.pop() {
+            if front.is_on(sleeve) {
+                return Ok(front);
+            }
+        }
+        Front::first(alloc, self.ring, self.mesh, self.start, sleeve, steps)
     }
 
     // Finds the paths to all points in the triangle behind diagonal `i` that have none yet.
@@ -252,23 +308,6 @@ impl<'a> Stops<'a> {
         let out = names_behind(alloc, &board, names, apex, behind, steps)?;
         points_of(alloc, &out, &board)
     }
-
-    // For each vertex, whether it is a corner of a triangle of one of the points. Whether this is told right is a matter of time
-    // alone.
-    fn marks(&self, alloc: Global) -> Result<Vec<bool>, Memory>
-        requires fits { Fits self.now.ring.now.corners self.now.mesh.now }
-        requires in_mesh { (k : ℕ) → k < length self.now.tris.now → slice_index self.now.tris.now k < length self.now.mesh.now }
-        ensures { IfOk result (λ marks. length marks.items ≡ length self.now.ring.now.corners) }
-    {
-        let mut marks = vec![in alloc; false; self.ring.len() as usize]?;
-        for k in 0..self.tris.len() {
-            let tri = self.mesh.tri(self.tris[k]);
-            marks[tri.a as usize] = true;
-            marks[tri.b as usize] = true;
-            marks[tri.c as usize] = true;
-        }
-        Ok(marks)
-    }
 }
 
 // The names of the path to the goal in the triangle behind the diagonal that a walk has come to.
@@ -313,15 +352,6 @@ fn put(found: &mut Vec<Vec<Pt>>, k: usize, path: Vec<Pt>)
     found[k] = path;
 }
 
-// Whether both ends of diagonal `i` are marked.
-fn is_marked(marks: &[bool], sleeve: &Sleeve, i: usize) -> bool
-    requires within { i < length sleeve.now.diagonals }
-    requires left { (diagonal_at sleeve.now i).left < length marks.now }
-    requires right { (diagonal_at sleeve.now i).right < length marks.now }
-{
-    marks[sleeve.left(i) as usize] && marks[sleeve.right(i) as usize]
-}
-
 // Whether the triangle has the side from one corner to another.
 fn has_side(tri: Tri, from: u32, to: u32) -> bool
     ensures { IsTrue result ↔ HasSide tri from to }
@@ -344,7 +374,7 @@ fn none_yet(alloc: Global, count: usize) -> Result<Vec<Vec<Pt>>, Memory>
 }
 
 // A copy of the names, with room for so many more.
-fn copied(alloc: Global, names: &[Spot], more: usize) -> Result<Vec<Spot>, Memory>
+pub(crate) fn copied(alloc: Global, names: &[Spot], more: usize) -> Result<Vec<Spot>, Memory>
     requires { length names.now + more < 2 ^ 32 }
     ensures items { IfOk result (λ copy. copy.items ≡ names.now) }
     ensures room { IfOk result (λ copy. vec_capacity copy ≡ length names.now + more) }

@@ -1,8 +1,7 @@
 // The relative hull of some points in the polygon, and its round.
-ghost use Rattle.std.specs.Prelude.{◌≡◌, ◌↔◌, ◌≤◌, ◌<◌, ◌+◌, ◌*◌, ℕ, List, IfOk, IsTrue, OnOk, length, map, reverse, slice_index, vec_capacity};
+ghost use Rattle.std.specs.Prelude.{◌≡◌, ◌↔◌, ◌≤◌, ◌<◌, ◌+◌, ◌*◌, ℕ, List, IfOk, IsTrue, OnOk, length, map, reverse, slice_index, slice_index_or, vec_capacity};
 ghost use Rattle.plane.specs.Point.{Point};
 ghost use Rattle.plane.specs.declared.limits.TheConstants.{MAX_HULL};
-ghost use Rattle.rings.specs.Chain.{point_at};
 ghost use Rattle.geo_text.specs.Version.{by_version};
 ghost use Rattle.ring_check.specs.Oriented.{given_of};
 ghost use Rattle.rel_hull.specs.Table.{AreSides, table_points};
@@ -139,7 +138,7 @@ impl Held {
         let _ring_is_simple = self.ring.len();
         let m = numbers.len();
         let homes = at_places(alloc, tris, numbers)?;
-        let ends = points_at(alloc, points, numbers)?;
+        let ends = at_places(alloc, points, numbers)?;
         let mut chains = Vec::with_capacity(alloc, m * m)?;
         for r in 0..m {
             put_back(alloc, m, r, &mut chains)?;
@@ -256,26 +255,15 @@ fn is_repeated<L: Ledger>(points: &[Pt], i: usize, steps: &mut Steps<L>) -> bool
     false
 }
 
-// The numbers at these places.
-fn at_places(alloc: Global, numbers: &[u32], places: &[u32]) -> Result<Vec<u32>, Memory>
-    requires { (k : ℕ) → k < length places.now → slice_index places.now k < length numbers.now }
-    ensures { IfOk result (λ found. found.items ≡ map (slice_index numbers.now) places.now) }
+// The items at these places.
+fn at_places<T: Copy>(alloc: Global, items: &[T], places: &[u32]) -> Result<Vec<T>, Memory>
+    requires { (k : ℕ) → k < length places.now → slice_index places.now k < length items.now }
+    ensures count { IfOk result (λ found. length found.items ≡ length places.now) }
+    ensures items { IfOk result (λ found. (d : T) → found.items ≡ map (λ place. slice_index_or items.now place d) places.now) }
 {
     let mut found = Vec::with_capacity(alloc, places.len())?;
     for place in places {
-        found.push_reserved(numbers[*place as usize]);
-    }
-    Ok(found)
-}
-
-// The points at these places.
-fn points_at(alloc: Global, points: &[Pt], places: &[u32]) -> Result<Vec<Pt>, Memory>
-    requires { (k : ℕ) → k < length places.now → slice_index places.now k < length points.now }
-    ensures { IfOk result (λ found. found.items ≡ map (point_at points.now) places.now) }
-{
-    let mut found = Vec::with_capacity(alloc, places.len())?;
-    for place in places {
-        found.push_reserved(points[*place as usize]);
+        found.push_reserved(items[*place as usize]);
     }
     Ok(found)
 }

@@ -35,6 +35,13 @@ returns-clause-served g c =
           (of_mesh.diagonals (d - 1) (omega (arith, some))).of_second))
     ]
 
+pub returns-clause-fronts : goal.returns-clause-fronts
+returns-clause-fronts g c =
+    elim c.if-len-eq0.branch [
+      | then-len-eq0+in_ok-path w ↦ rw w.fronts-is c.requires.fronts
+      | else-len-eq0+in_ok-walk_along w ↦ rw w.fronts-is w.in_ok-walk_along.ensures.fronts
+    ]
+
 pub returns-clause-found : goal.returns-clause-found
 returns-clause-found g c =
     let corners = c.args.self.now.ring.now.corners in

@@ -1,5 +1,5 @@
-use Rattle.std.proofs.Common.{◌≡◌, ◌∙◌, ◌+◌, ◌*◌, ◌-◌, ◌<◌, ◌≤◌, ap, arith, drop, length, map, refl, subst, sym, take, ℕ, slice_index}
-use Rattle.std.proofs.lemmas.List.{get_or_read, length-map, map-append}
+use Rattle.std.proofs.Common.{◌≡◌, ◌+◌, ◌*◌, ◌-◌, ◌<◌, ◌≤◌, ap, arith, drop, length, map, refl, subst, sym, take, ℕ, slice_index}
+use Rattle.std.proofs.lemmas.List.{get_or_read, map-append}
 use Rattle.plane.specs.Point.{whole}
 use Rattle.plane.specs.declared.limits.TheConstants.{MAX_CORNERS}
 use Rattle.rings.specs.Chain.{point_at}
@@ -16,36 +16,36 @@ use Rattle.geo_session.proofs.held.Held.chains.Goals as goal
 pub at_places-requires : goal.at_places-requires
 at_places-requires g c = λ k below. let number = number_in_list c.args.points.now c.args.numbers.now c.requires.firsts k below in omega (arith, number, c.requires.held.one_each)
 
-pub points_at-requires : goal.points_at-requires
-points_at-requires g c = number_in_list c.args.points.now c.args.numbers.now c.requires.firsts
+pub at_places-requires-2 : goal.at_places-requires-2
+at_places-requires-2 g c = number_in_list c.args.points.now c.args.numbers.now c.requires.firsts
 
 pub paths_from-requires-clause-home : goal.paths_from-requires-clause-home
 paths_from-requires-clause-home g c =
     let homes = c.in_ok-homes.homes.items in
-    let count = ap length c.in_ok-homes.ensures ∙ length-map c.args.numbers.now (slice_index c.args.tris.now) in
+    let count = c.in_ok-homes.ensures.count in
     let home = get_or_read homes c.loop-r.r c.index.result.now (omega (arith, count, c.loop-r-test.true)) c.index.ensures 0 in
     let held = rw (← c.self.view_is) at c.requires.held in
     subst (λ k. k < length c.self.inside.mesh) (sym home)
-    (end_held _ _ _ _ _ _ _ c.requires.firsts held c.in_ok-homes.ensures c.in_ok-ends.ensures c.loop-r.r c.loop-r-test.true).in_list
+    (end_held _ _ _ _ _ _ _ c.requires.firsts held (c.in_ok-homes.ensures.items 0) (c.in_ok-ends.ensures.items origin) c.loop-r.r c.loop-r-test.true).in_list
 
 pub paths_from-requires-clause-start : goal.paths_from-requires-clause-start
 paths_from-requires-clause-start g c =
     let homes = c.in_ok-homes.homes.items in
     let ends = c.in_ok-ends.ends.items in
-    let count = ap length c.in_ok-homes.ensures ∙ length-map c.args.numbers.now (slice_index c.args.tris.now) in
+    let count = c.in_ok-homes.ensures.count in
     let home = get_or_read homes c.loop-r.r c.index.result.now (omega (arith, count, c.loop-r-test.true)) c.index.ensures 0 in
-    let count_ends = ap length c.in_ok-ends.ensures ∙ length-map c.args.numbers.now (point_at c.args.points.now) in
+    let count_ends = c.in_ok-ends.ensures.count in
     let end = get_or_read ends c.loop-r.r c.index-in-loop-r.result.now (omega (arith, count_ends, c.loop-r-test.true)) c.index-in-loop-r.ensures origin in
     let held = rw (← c.self.view_is) at c.requires.held in
     subst (λ k. IsInTri c.self.inside.ring.corners (tri_at c.self.inside.mesh k) (whole c.index-in-loop-r.result.now)) (sym home)
     (subst (λ p. IsInTri c.self.inside.ring.corners (tri_at c.self.inside.mesh (slice_index homes c.loop-r.r)) (whole p)) (sym end)
-    (end_held _ _ _ _ _ _ _ c.requires.firsts held c.in_ok-homes.ensures c.in_ok-ends.ensures c.loop-r.r c.loop-r-test.true).holds)
+    (end_held _ _ _ _ _ _ _ c.requires.firsts held (c.in_ok-homes.ensures.items 0) (c.in_ok-ends.ensures.items origin) c.loop-r.r c.loop-r-test.true).holds)
 
 pub paths_from-requires-clause-held : goal.paths_from-requires-clause-held
 paths_from-requires-clause-held g c =
     let held = rw (← c.self.view_is) at c.requires.held in
     rw (c.deref.ensures.value, c.deref-in-loop-r.ensures.value, rest_of c.in_ok-homes.homes.items c.loop-r.r, rest_of c.in_ok-ends.ends.items c.loop-r.r)
-    (ends_held _ _ _ _ _ _ _ c.requires.firsts held c.in_ok-homes.ensures c.in_ok-ends.ensures c.loop-r.r)
+    (ends_held _ _ _ _ _ _ _ c.requires.firsts held (c.in_ok-homes.ensures.items 0) (c.in_ok-ends.ensures.items origin) c.loop-r.r)
 
 pub loop-r-preserved : goal.loop-r-preserved
 loop-r-preserved g c =
@@ -55,7 +55,7 @@ loop-r-preserved g c =
     let r = c.loop-r.r in
     let ends = c.in_ok-ends.ends.items in
     let paths = map (λ chain. chain.items) c.in_ok-paths.paths.items in
-    let count_ends = ap length c.in_ok-ends.ensures ∙ length-map numbers (point_at c.args.points.now) in
+    let count_ends = c.in_ok-ends.ensures.count in
     let end = get_or_read ends r c.index-in-loop-r.result.now (omega (arith, count_ends, c.loop-r-test.true)) c.index-in-loop-r.ensures origin in
     let some : 3 ≤ length ring = rw (← c.self.view_is) c.len-ring_is_simple.ensures.size.0 in
     let short : length ring ≤ MAX_CORNERS = rw (← c.self.view_is) c.len-ring_is_simple.ensures.size.1 in
@@ -71,7 +71,7 @@ loop-r-preserved g c =
     record {
       are = rw (c.in_ok-append.ensures.items, map-append (λ chain. chain.items) c.put_back.new.chains.items c.in_ok-paths.paths.items)
           (row_more ring c.args.points.now numbers some simple short r c.loop-r-test.true _ _ paths inv.are c.in_ok-put_back.ensures.turned ends
-          c.in_ok-ends.ensures from_end);
+          (c.in_ok-ends.ensures.items origin) from_end);
       room = omega (arith, inv.room, c.put_back.ensures.same_room, c.append.ensures.capacity);
       steps = one_more _ _ _ r _ inv.steps paid;
     }
@@ -89,7 +89,7 @@ returns-in_err-paths-clause-steps g c =
     let ends = c.in_ok-ends.ends.items in
     let m = length c.args.numbers.now in
     let n = length c.args.self.now.ring.corners in
-    let count_ends = ap length c.in_ok-ends.ensures ∙ length-map c.args.numbers.now (point_at c.args.points.now) in
+    let count_ends = c.in_ok-ends.ensures.count in
     let paid = row_cost ends c.loop-r.r m (4 * n) c.loop-r.steps c.paths_from.new.steps count_ends
     (rw (← c.self.view_is, ← c.deref-in-loop-r.ensures.value) c.paths_from.ensures.steps) in
     let all = within_rounds _ _ (c.loop-r.r + 1) m (m * (4 * n)) (one_more _ _ _ c.loop-r.r _ c.loop-r.invariant.steps paid) (omega (arith, c.loop-r-test.true)) in

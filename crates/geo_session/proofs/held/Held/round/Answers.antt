@@ -36,14 +36,14 @@ of-requires g c =
     let ring = c.self.inside.ring.corners in
     let few = places_few ring points numbers is.firsts is.some places
     (round_numbered ring points numbers is.firsts c.in-Ok.span.chains is.table places c.in_ok-places.ensures.round) in
-    let are = rw (c.deref.ensures.value, c.deref-2.ensures.value) at c.in_ok-numbers.ensures in
+    let are = rw (c.deref.ensures.value, c.deref-2.ensures.value) at c.in_ok-numbers.ensures.items 0 in
     let long = ap length are ∙ length-map places (slice_index numbers) in
     omega (arith, few, long, is.few)
 
 pub returns-clause-told : goal.returns-clause-told
 returns-clause-told g c =
     let is = rw (c.in-Ok.is, ← c.self.view_is) at c.in_ok-span.ensures.numbered in
-    let are = rw (c.deref.ensures.value, c.deref-2.ensures.value) at c.in_ok-numbers.ensures in
+    let are = rw (c.deref.ensures.value, c.deref-2.ensures.value) at c.in_ok-numbers.ensures.items 0 in
     rw (← c.self.view_is)
     (round_within c.self.inside.ring c.self.inside.mesh c.args.points.now c.in-Ok.span is c.self.invariant.fits c.in_ok-places.places.items c.of.result
     c.in_ok-places.ensures.round (c.of.ensures ∙ are))
