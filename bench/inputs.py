@@ -13,6 +13,7 @@ Ring = List[Point]
 
 L = [(0, 0), (4, 0), (4, 2), (2, 2), (2, 4), (0, 4)]
 WIDTH = 100  # of the corridors of mazes and spirals
+SPIKES = 64  # of the broom, as many as a hull takes points
 
 
 def comb(n: int) -> Ring:
@@ -187,12 +188,28 @@ def way_along_comb(n: int) -> Ring:
     return ends[:1] + [(4 * i, 6 if i % 2 else 2) for i in range(1, k)] + ends[1:]
 
 
-def corners_of_comb(n: int, count: int) -> Ring:
-    """So many corners of the comb round which no path bends, half of them at each end, and in turn from there inward. The last one is
-    walked to first, so that few walks come by other corners that are still to be walked to."""
+def outer_corners(n: int, count: int) -> Ring:
+    """So many corners of the comb round which no path bends, half of them at each end."""
     outer = [(4 * i, 8 * (i % 2)) for i in range(n // 2)]
-    ends = zip(outer[:count // 2], reversed(outer[-(count // 2):]))
-    return [corner for both in ends for corner in both]
+    return outer[:count // 2] + outer[-(count // 2):]
+
+
+def spike(corner: Point) -> Ring:
+    """What the broom has in the place of an outer corner of the comb. The third is the tip."""
+    (x, y), way = (4 * corner[0], 4 * corner[1]), 1 if corner[1] else -1
+    return [(x + way, y), (x + way, y + 9 * way), (x, y + 20 * way), (x - way, y + 9 * way), (x - way, y)]
+
+
+def broom(n: int) -> Ring:
+    """A comb with 32 spikes at each end. No path from tip to tip comes by another tip."""
+    ring = comb(n - 4 * SPIKES)
+    spiked = set(outer_corners(len(ring), SPIKES))
+    return [point for x, y in ring for point in (spike((x, y)) if (x, y) in spiked else [(4 * x, 4 * y)])]
+
+
+def tips_of_broom(n: int) -> Ring:
+    """The tips of its spikes."""
+    return [spike(corner)[2] for corner in outer_corners(n - 4 * SPIKES, SPIKES)]
 
 
 def way_through_saw(n: int) -> Ring:
@@ -261,7 +278,7 @@ def turned(n: int) -> Ring:
 Shape = Callable[[int], Ring]
 SHAPES: Dict[str, Shape] = {shape.__name__: shape for shape in (comb, star, maze, spiral)}
 SIX_SHAPES: Dict[str, Shape] = SHAPES | {shape.__name__: shape for shape in (convex, moon)}
-MORE_SHAPES: Dict[str, Shape] = SIX_SHAPES | {shape.__name__: shape for shape in (skyline, saw, arch, zigzag, turned)}
+MORE_SHAPES: Dict[str, Shape] = SIX_SHAPES | {shape.__name__: shape for shape in (skyline, saw, arch, zigzag, turned, broom)}
 WAYS: Dict[str, Shape] = {'comb': way_along_comb, 'convex': way_across_convex, 'saw': way_past_teeth}
 
 

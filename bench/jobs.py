@@ -13,7 +13,7 @@ SIZES = [1024, 4096, 16_384]
 PAIRED = [256, 1024]  # for `pair` and `sights`, which take no more vertices
 MOST = {1: 4096, 2: 16_384}  # vertices in a version of the script
 BYTES = [1_048_576, 8_388_608]
-PLACES, VIEWS, LONG_VIEWS, PATHS, LISTS, PEGS, MOST_PEGS, TIMES, WALKS = 1000, 100, 10, 200, 10, 16, 64, 20, 10
+PLACES, VIEWS, LONG_VIEWS, PATHS, LISTS, PEGS, TIMES, WALKS = 1000, 100, 10, 200, 10, 16, 20, 10
 ENOUGH, REPEATS = 0.03, 512
 
 
@@ -264,9 +264,9 @@ def closed_round(job: Job, ask: Ask) -> None:
 
 
 def pegs(job: Job) -> Ring:
-    """Some points inside. Where the job is hostile, as many as a record takes, half at each end of the comb, and none on a path between
-    others."""
-    return inputs.corners_of_comb(job.size, MOST_PEGS) if job.hostile else inputs.inner_places(job.ring, PEGS)
+    """Some points inside. Where the job is hostile, as many as a record takes, half at each end of the broom, and a walk to one comes by no
+    other."""
+    return inputs.tips_of_broom(job.size) if job.hostile else inputs.inner_places(job.ring, PEGS)
 
 
 def guards(job: Job, ask: Ask) -> None:
@@ -354,9 +354,9 @@ KINDS = [
     Kind('check', ['saw'], check_way(inputs.way_through_saw), 'two points', hostile=True),
     Kind('check', ['arch'], check_way(inputs.way_along_arch), 'each tip', hostile=True),
     Kind('check', ['turned'], check_far, 'end to end', hostile=True),
-    Kind('hull', ['comb'], hull, f'{MOST_PEGS} points', hostile=True),
-    Kind('round', ['comb'], closed_round, f'{MOST_PEGS} points', hostile=True),
-    Kind('guards', ['star', 'maze'], guards, hostile=True),
+    Kind('hull', ['broom'], hull, f'{inputs.SPIKES} points', hostile=True),
+    Kind('round', ['broom'], closed_round, f'{inputs.SPIKES} points', hostile=True),
+    Kind('guards', ['saw', 'star'], guards, hostile=True),
     Kind('pair', ['spiral'], pair_far, hostile=True),
     Kind('sights', ['convex'], sights_again, hostile=True),
 ]
