@@ -21,17 +21,17 @@ use Rattle.funnels.proofs.Bends.{corner_in}
 use Rattle.funnels.proofs.Corners.{side_corners}
 use Rattle.funnels.proofs.Trees.{before_differs, before_at_home}
 use Rattle.funnels.proofs.Vertices.{fitted_long, fitted_simple}
-use Rattle.tri_mesh.specs.Outward.{IsOutward, outward_at, at_place}
+use Rattle.tri_mesh.specs.Outward.{IsOutward, at_place}
 use Rattle.tri_mesh.specs.declared.outward.Outward.{Outward}
 use Rattle.shared_seq.specs.Digits.{binary_digits}
-use Rattle.shared_funnel.proofs.NextFunnels.{beyond_at, from_start, third_below}
+use Rattle.shared_funnel.proofs.NextFunnels.{beyond_at, corner_had, from_start, third_below}
 use Rattle.shared_funnel.proofs.FunnelNumbers.{point_there}
 use Rattle.shared_funnel.proofs.ReachedBefore.{before_third}
 use Rattle.shared_funnel.proofs.StepCounts.{home_steps, three_digits}
-use Rattle.shared_funnel.proofs.Doors.{corner_below, corner_cases}
-use Rattle.shared_funnel.specs.Entered.{IsFromStart, left_of, right_of, third_of, toward}
+use Rattle.shared_funnel.proofs.Doors.{corner_below}
+use Rattle.shared_funnel.specs.Entered.{IsFromStart, left_of, right_of, third_of}
 use Rattle.shared_funnel.specs.Listed.{point_of}
-use Rattle.pair_cut.specs.Doors.{IsGrownTo, IsOnWay, IsTangentTo, tangent_at}
+use Rattle.pair_cut.specs.Doors.{IsGrownTo, IsTangentTo, tangent_at}
 use Rattle.pair_cut.specs.Pairs.{IsBeforeVertex, IsMadeFor, pair_before}
 use Rattle.pair_cut.specs.Rows.{AreRows, IsNumberBefore, IsRow, IsTable}
 use Rattle.pair_cut.specs.declared.climb.Tangent.{Tangent}
@@ -146,26 +146,6 @@ module _ (corners : List Point) (i : ℕ) (tris : List Tri) (order : List Outwar
 
   module _ (p : ℕ) (later : 0 < p) (below : p < length order) (before : List ℕ) (tangents : List Tangent)
       (grown : IsGrownTo corners i tris order p before tangents) where
-    -- the ends of the side are corners of an earlier triangle, so all but the third corner have their numbers,
-    corner_had : (j : ℕ) → IsOnWay tris order (p + 1) j → j ≢ third_of tris order p → HasNumber before j
-    corner_had j on other =
-        let (q, less, has) = on in
-        elim (cases_eq q p) [
-          | inl same ↦
-              let joined = from.outward.joined p later below in
-              let t = tri_at tris (at_place order p) in
-              let here = subst (λ r. HasCorner (tri_at tris (at_place order r)) j) same has in
-              let shared = side_corners (tri_at tris (at_place order (toward order p))) (right_of tris order p) (left_of tris order p) joined.shared in
-              let had = λ (k : ℕ) (corner : HasCorner (tri_at tris (at_place order (toward order p))) k) (e : k ≡ j).
-              subst (HasNumber before) e (grown.told k (toward order p, joined.earlier, corner)) in
-              elim (corner_cases t (outward_at order p).side j joined.side here) [
-                | inl begin ↦ had (left_of tris order p) shared.1 begin
-                | inr (inl end) ↦ had (right_of tris order p) shared.0 end
-                | inr (inr third) ↦ absurd (other (sym third))
-              ]
-          | inr differ ↦ grown.told j (q, omega (arith, less, differ), has)
-        ]
-
     module _ (t : Tangent) (to : IsTangentTo corners i tris order p t) where
       -- the vertex from which the third corner is reached comes before it,
       third_told : IsNumberBefore corners i (third_of tris order p) t.near
@@ -194,8 +174,10 @@ module _ (corners : List Point) (i : ℕ) (tris : List Tri) (order : List Outwar
                   (subst (IsNumberBefore corners i m) (sym (get_or-set_same before m t.near 0 (omega (arith, third, m_below, grown.vertices))))
                   (subst (λ k. IsNumberBefore corners i k t.near) (sym third) third_told))
               | inr other ↦
+                  let (q, less, has) = on in
                   subst (IsNumberBefore corners i j) (sym (get_or-set_other before m j t.near 0 other))
-                  (corner_had j on (λ e. other (e ∙ sym third)))
+                  (corner_had corners start tris order from p later below (HasNumber before) (λ r k less has. grown.told k (r, less, has)) q j less has
+                  (λ e. other (e ∙ sym third)))
             ];
             places = length-set tangents p t ∙ grown.places;
             tangents_told = λ q some less. elim (cases_eq q p) [

@@ -21,13 +21,13 @@ use Rattle.funnels.specs.Funnel.{IsReachedFrom}
 use Rattle.exact_plane.specs.Spot.{point_named}
 use Rattle.exact_plane.specs.declared.turns.Spot.{Spot}
 use Rattle.exact_plane.specs.declared.turns.Spot.TheVariants.{Corner, Start}
-use Rattle.tri_mesh.specs.Outward.{IsOutward, outward_at, at_place}
+use Rattle.tri_mesh.specs.Outward.{IsOutward, at_place}
 use Rattle.tri_mesh.specs.declared.outward.Outward.{Outward}
-use Rattle.shared_funnel.proofs.NextFunnels.{apart, beyond_at, from_start, third_below}
+use Rattle.shared_funnel.proofs.NextFunnels.{apart, beyond_at, corner_had, from_start, third_below}
 use Rattle.shared_funnel.proofs.FunnelNumbers.{corner_point, source_point}
 use Rattle.shared_funnel.proofs.ReachedBefore.{before_third, before_point, number_of_source}
-use Rattle.shared_funnel.proofs.Doors.{corner_below, corner_cases}
-use Rattle.shared_funnel.specs.Entered.{IsFromStart, IsFunnelTo, left_of, right_of, third_of, toward}
+use Rattle.shared_funnel.proofs.Doors.{corner_below}
+use Rattle.shared_funnel.specs.Entered.{IsFromStart, IsFunnelTo, left_of, right_of, third_of}
 use Rattle.shared_funnel.specs.Listed.{IsTriangleBeyond, IsFunnelAt, Listed, point_of, listed_points}
 use Rattle.path_tree.specs.Growing.{AreThirdPlaces, IsGrownOver, IsThirdFrom, KeepsFunnelTo}
 use Rattle.path_tree.specs.Grown.{IsFromNamed, Names, IsEntered, IsGrownFrom, KeepsFunnel, NamedTree, funnel_at, before_at}
@@ -165,26 +165,7 @@ module _ (corners : List Point) (start : Point) (tris : List Tri) (order : List 
   }
 
   module _ (p : ℕ) (later : 0 < p) (below : p < length order) (tree : NamedTree) (grown : IsGrownOver corners start tris order p tree) where
-    -- At one more place the ends of the side are corners of an earlier triangle, so all but the third corner have their parents,
-    corner_had : (q i : ℕ) → q < p + 1 → HasCorner (tri_at tris (at_place order q)) i → i ≢ third_of tris order p
-        → HasParent corners start tree.before i
-    corner_had q i less has other = elim (cases_eq q p) [
-      | inl same ↦
-          let joined = from.outward.joined p later below in
-          let t = tri_at tris (at_place order p) in
-          let here = subst (λ r. HasCorner (tri_at tris (at_place order r)) i) same has in
-          let shared = side_corners (tri_at tris (at_place order (toward order p))) (right_of tris order p) (left_of tris order p) joined.shared in
-          let had = λ (j : ℕ) (corner : HasCorner (tri_at tris (at_place order (toward order p))) j) (e : j ≡ i).
-          subst (HasParent corners start tree.before) e (grown.parents (toward order p) j joined.earlier corner) in
-          elim (corner_cases t (outward_at order p).side i joined.side here) [
-            | inl begin ↦ had (left_of tris order p) shared.1 begin
-            | inr (inl end) ↦ had (right_of tris order p) shared.0 end
-            | inr (inr third) ↦ absurd (other (sym third))
-          ]
-      | inr differ ↦ grown.parents q i (omega (arith, less, differ)) has
-    ]
-
-    -- and it has grown over that place with the parent of the third corner, and the funnel
+    -- At one more place it has grown with the parent of the third corner, and the funnel.
     pub grown_more : (m : ℕ) (value : Option Spot) (f : Listed) → m ≡ third_of tris order p → IsFromNamed corners start (vertex corners m) value
         → IsFunnelTo corners start tris order p f
         → IsGrownOver corners start tris order (p + 1)
@@ -196,7 +177,8 @@ module _ (corners : List Point) (start : Point) (tris : List Tri) (order : List 
           vertices = length-set tree.before m value ∙ grown.vertices;
           parents = λ q i less has.
               parent_written corners start tree.before m value (omega (arith, third, corner_within, grown.vertices)) right i
-              (λ differ. corner_had q i less has (λ e. differ (e ∙ sym third)));
+              (λ differ. corner_had corners start tris order from p later below (HasParent corners start tree.before) grown.parents q i less has
+              (λ e. differ (e ∙ sym third)));
           triangles = length-set tree.funnels (at_place order p) (Some f) ∙ grown.triangles;
           funnels = λ q less. elim (cases_eq q p) [
             | inl same ↦

@@ -1,6 +1,7 @@
 // The texts of answers: refusals, points and rational points.
 ghost use Rattle.std.specs.Prelude.{◌≡◌, ◌+◌};
 
+use crate::polygons::{ats_of, points_of};
 use exact_plane::{Hom, Memory, Pt, Steps};
 use geo_text::{Bad, Points, put_bad, put_hom, put_index, put_line_end, put_pt, put_word};
 use std::alloc::Global;
@@ -81,14 +82,20 @@ past the limits | -1000000,-1000000 1000000,999999 -1000000,-999999 999999,10000
 
 pub(crate) fn points<L: Ledger, R: Abort>(rt: &R, alloc: Global, steps: &mut Steps<L>) {
     for row in POINTS.split('\n') {
-        assert!(rt; is_point_text(alloc, row, steps), "{row}");
+        assert!(rt; is_point_text(rt, alloc, row, steps), "{row}");
     }
 }
 
-fn is_point_text<L: Ledger>(alloc: Global, row: &str, steps: &mut Steps<L>) -> bool {
+fn is_point_text<L: Ledger, R: Abort>(
+    rt: &R,
+    alloc: Global,
+    row: &str,
+    steps: &mut Steps<L>,
+) -> bool {
     if let Some((_, rest)) = row.split_once(" | ")
         && let Some((list, want)) = rest.split_once(" | ")
-        && let Some(points) = points_of(alloc, list)
+        && let Ok(list) = ats_of(rt, alloc, list)
+        && let Ok(points) = points_of(rt, alloc, &list)
     {
         let mut out = Vec::new(alloc);
         put_word(&mut out, "at").is_ok()
@@ -97,30 +104,6 @@ fn is_point_text<L: Ledger>(alloc: Global, row: &str, steps: &mut Steps<L>) -> b
     } else {
         false
     }
-}
-
-fn point_of(word: &str) -> Option<Pt> {
-    if let Some((x, y)) = word.split_once(',')
-        && let Ok(x) = x.parse()
-        && let Ok(y) = y.parse()
-    {
-        Pt::of(x, y)
-    } else {
-        None
-    }
-}
-
-fn points_of(alloc: Global, list: &str) -> Option<Vec<Pt>> {
-    let mut points = Vec::new(alloc);
-    for word in list.split(' ') {
-        if let Some(point) = point_of(word)
-            && points.push(point).is_ok()
-        {
-            continue;
-        }
-        return None;
-    }
-    Some(points)
 }
 
 // The text of the point, or of the point where two lines meet.

@@ -1,21 +1,24 @@
--- The triangles at the places of an order outward: each is entered over the side that it shares with the one from which it is reached.
+-- The triangles at the places of an order outward: each is entered over the side that it shares with the one from which it is reached,
+-- and has one corner that no earlier one need have.
 -- The funnel at the side over which the triangle at a place is entered: from home, and from the funnel of the triangle from which it
 -- is reached.
-use Rattle.std.proofs.Common.{◌≡◌, sym, subst, List, length, ℕ, ◌<◌, arith, ◌⊎◌, inl, inr, ◌∙◌, ◌+◌, ◌≤◌}
+use Rattle.std.proofs.Common.{◌≡◌, ◌≢◌, sym, subst, List, length, ℕ, ◌<◌, arith, ◌⊎◌, inl, inr, ◌∙◌, ◌+◌, ◌≤◌}
+use Rattle.std.proofs.lemmas.Bool.{cases_eq}
 use Rattle.std.proofs.lemmas.List.{length-map}
 use Rattle.plane.specs.Point.{Point, whole}
 use Rattle.rings.specs.Ring.{vertex}
 use Rattle.meshes.proofs.Sides.{ends_below, fitting_sides, two_fewer}
 use Rattle.meshes.specs.Fits.{Fits, IsInTri, IsSideOfTwo}
-use Rattle.meshes.specs.Side.{tri_at, HasSide}
+use Rattle.meshes.specs.Side.{tri_at, HasCorner, HasSide}
 use Rattle.meshes.specs.declared.tri.Tri.{Tri}
+use Rattle.funnels.proofs.Corners.{side_corners}
 use Rattle.funnels.specs.Funnel.{IsReachedFrom}
 use Rattle.tri_mesh.proofs.Neighbours.{has_side_numbered}
 use Rattle.tri_mesh.specs.Outward.{IsOutward, outward_at, at_place}
 use Rattle.tri_mesh.specs.declared.outward.Outward.{Outward}
 use Rattle.shared_seq.proofs.Digits.{binary_digits_mono}
 use Rattle.shared_seq.specs.Digits.{binary_digits}
-use Rattle.shared_funnel.proofs.Doors.{beyond_of, side_of_both, third_numbered, funnel_later, goes_on}
+use Rattle.shared_funnel.proofs.Doors.{beyond_of, corner_cases, side_of_both, third_numbered, funnel_later, goes_on}
 use Rattle.shared_funnel.proofs.StepCounts.{three_digits}
 use Rattle.shared_funnel.specs.Entered.{IsFromStart, left_of, right_of, third_of, toward, IsFunnelTo}
 use Rattle.shared_funnel.specs.Listed.{IsTriangleBeyond, IsFunnelAt, Listed, point_of, listed_points}
@@ -74,6 +77,24 @@ module _ (corners : List Point) (start : Point) (tris : List Tri) (order : List 
 
     pub third_below : third_of tris order p < length corners
     third_below = (ends_below corners tris from.fits (at_place order p) (right_of tris order p) (third_of tris order p) (from.outward.in_list p below) beyond_at.right).1
+
+    -- What the corners of the earlier triangles have, those of that triangle have, but for the third one.
+    pub corner_had : (Had : ℕ → Type 0) → ((q i : ℕ) → q < p → HasCorner (tri_at tris (at_place order q)) i → Had i)
+        → (q i : ℕ) → q < p + 1 → HasCorner (tri_at tris (at_place order q)) i → i ≢ third_of tris order p → Had i
+    corner_had Had all q i less has other = elim (cases_eq q p) [
+      | inl same ↦
+          let joined = from.outward.joined p later below in
+          let here = subst (λ r. HasCorner (tri_at tris (at_place order r)) i) same has in
+          let shared = side_corners (tri_at tris (at_place order (toward order p))) (right_of tris order p) (left_of tris order p) joined.shared in
+          let had = λ (j : ℕ) (corner : HasCorner (tri_at tris (at_place order (toward order p))) j) (e : j ≡ i).
+          subst Had e (all (toward order p) j earlier corner) in
+          elim (corner_cases (tri_at tris (at_place order p)) (outward_at order p).side i joined.side here) [
+            | inl begin ↦ had (left_of tris order p) shared.1 begin
+            | inr (inl end) ↦ had (right_of tris order p) shared.0 end
+            | inr (inr third) ↦ absurd (other (sym third))
+          ]
+      | inr differ ↦ all q i (omega (arith, less, differ)) has
+    ]
 
 module _ (corners : List Point) (start : Point) (tris : List Tri) (order : List Outward) (from : IsFromStart corners start tris order) where
   -- where there is a later place, there are four corners or more
