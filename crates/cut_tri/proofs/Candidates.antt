@@ -45,7 +45,7 @@ none_below corners piece order = record {
 }
 
 -- what is not farther than one that is not farther than a third is not farther than the third
-not_farther_trans : (a b c : Candidate) → ¬ (IsFarther a b) → ¬ (IsFarther b c) → ¬ (IsFarther a c)
+pub not_farther_trans : (a b c : Candidate) → ¬ (IsFarther a b) → ¬ (IsFarther b c) → ¬ (IsFarther a c)
 not_farther_trans a b c h k l = grind (arith, ints)
 
 -- one rank more is that of one vertex

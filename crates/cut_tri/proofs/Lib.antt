@@ -1,4 +1,5 @@
 mod AllowedSteps
+mod BestFrom
 mod Candidates
 mod ClusterPlaces
 mod Completion
@@ -6,7 +7,6 @@ mod CornerPlaces
 mod DiagonalCuts
 mod DistinctCorners
 mod EarCuts
-mod EmptyCorners
 mod Ends
 mod FarthestTurns
 mod Heights
@@ -23,6 +23,7 @@ mod RotatedCuts
 mod SeenVertices
 mod Shapes
 mod Thinned
+mod ToldCorners
 mod TriangleBoxes
 mod TurnsBesideDiagonals
 mod WholePiece

@@ -7,7 +7,7 @@ use Rattle.integer_algebra.proofs.Signs.{lt_or_le, mul_negative, mul_nonnegative
 use Rattle.plane.proofs.Turns.{areas_add, determinant_of_whole, determinant_swap_first, four_triples_in_X, four_triples_in_Y}
 use Rattle.plane.specs.Point.{Point, Triple, whole}
 use Rattle.plane.specs.Triangle.{IsInTriangle}
-use Rattle.plane.specs.Turn.{IsLeft, IsRight}
+use Rattle.plane.specs.Turn.{IsLeft, determinant}
 use Rattle.exact_plane.specs.Boxes.{Encloses}
 use Rattle.exact_plane.specs.declared.bounding_box.BoundingBox.{BoundingBox}
 use Rattle.cut_tri.proofs.Heights.{way_at_most}
@@ -63,10 +63,10 @@ in_box box u v w p left has_u has_v has_w is =
     opposite : (k m : ℤ) → k ≡ neg_ℤ m → pos 0 ≤ℤ k → pos 0 ≤ℤ (pos 0 -ℤ m)
     opposite k m e h = omega (arith, ints)
 
--- ---- boxes on the right of a line
+-- ---- how far left of a line a box is
 
 -- a product grows with its second factor where the first is not negative, and falls where it is
-pub product_at_most : (x m n : ℤ) → (pos 0 ≤ℤ x → m ≤ℤ n) → (x <ℤ pos 0 → n ≤ℤ m) → (x *ℤ m) ≤ℤ (x *ℤ n)
+product_at_most : (x m n : ℤ) → (pos 0 ≤ℤ x → m ≤ℤ n) → (x <ℤ pos 0 → n ≤ℤ m) → (x *ℤ m) ≤ℤ (x *ℤ n)
 product_at_most x m n rises falls = elim (lt_or_le x (pos 0)) [
   | inl negative ↦
       let h = falls negative in
@@ -82,16 +82,13 @@ product_at_most x m n rises falls = elim (lt_or_le x (pos 0)) [
     later : {a b c : ℤ} → pos 0 ≤ℤ a → a ≡ b -ℤ c → c ≤ℤ b
     later h e = omega (arith, ints)
 
--- a point is right of the line of a side where its cross product with the way along it is less than that of where this begins
-pub right_of_side : (a b p : Point) (side : Side) → IsSideBetween a b side → ((side.x *ℤ p.y) -ℤ (side.y *ℤ p.x)) <ℤ side.begin
-    → IsRight (whole a) (whole b) (whole p)
-right_of_side a b p side is less =
-    subst (λ d. d <ℤ pos 0) (sym (determinant_of_whole a b p ∙ (λ k. (sym is.x k *ℤ (p.y -ℤ a.y)) -ℤ (sym is.y k *ℤ (p.x -ℤ a.x)))))
-    (less_than (expanded side.x side.y p.x p.y a.x a.y) is.begin less)
+-- how far a point is left of the line of a side is told by its cross product with the way along it, and that of where it begins
+pub side_of : (a b p : Point) (side : Side) → IsSideBetween a b side
+    → determinant (whole a) (whole b) (whole p) ≡ ((side.x *ℤ p.y) -ℤ (side.y *ℤ p.x)) -ℤ side.begin
+side_of a b p side is =
+    determinant_of_whole a b p ∙ (λ k. (sym is.x k *ℤ (p.y -ℤ a.y)) -ℤ (sym is.y k *ℤ (p.x -ℤ a.x))) ∙ expanded side.x side.y p.x p.y a.x a.y
+    ∙ ap (λ z. ((side.x *ℤ p.y) -ℤ (side.y *ℤ p.x)) -ℤ z) (sym is.begin)
   where
-    less_than : {d e f g : ℤ} → d ≡ e -ℤ f → g ≡ f → e <ℤ g → d <ℤ pos 0
-    less_than h k l = omega (arith, ints)
-
     expanded : (x y p q m n : ℤ) → (x *ℤ (q -ℤ n)) -ℤ (y *ℤ (p -ℤ m)) ≡ (x *ℤ q -ℤ y *ℤ p) -ℤ (x *ℤ n -ℤ y *ℤ m)
     expanded x y p q m n =
         same_value
@@ -99,15 +96,15 @@ right_of_side a b p side is less =
         ((var 0 ⊗ var 3 ⊖ var 1 ⊗ var 2) ⊖ (var 0 ⊗ var 5 ⊖ var 1 ⊗ var 4))
         (x ∷ y ∷ p ∷ q ∷ m ∷ n ∷ []) refl
 
--- a box has all its points right of a side where the corner farthest to the left is
-pub box_right_of_side : (a b p : Point) (box : BoundingBox) (side : Side) (x y : ℤ) → IsSideBetween a b side
+-- no point of a box is farther left of it than the corner farthest to the left
+pub box_left_of_side : (a b p : Point) (box : BoundingBox) (side : Side) (x y : ℤ) → IsSideBetween a b side
     → (side.y <ℤ pos 0 → x ≡ box.east) → (pos 0 ≤ℤ side.y → x ≡ box.west)
-    → (side.x <ℤ pos 0 → y ≡ box.south) → (pos 0 ≤ℤ side.x → y ≡ box.north)
-    → ((side.x *ℤ y) -ℤ (side.y *ℤ x)) <ℤ side.begin → Encloses box p → IsRight (whole a) (whole b) (whole p)
-box_right_of_side a b p box side x y side_is to_east to_west to_south to_north less is =
-    right_of_side a b p side side_is
-    (between (product_at_most side.x p.y y (λ h. up is.north (to_north h)) (λ h. down is.south (to_south h)))
-    (product_at_most side.y x p.x (λ h. down is.west (to_west h)) (λ h. up is.east (to_east h))) less)
+    → (side.x <ℤ pos 0 → y ≡ box.south) → (pos 0 ≤ℤ side.x → y ≡ box.north) → Encloses box p
+    → determinant (whole a) (whole b) (whole p) ≤ℤ (((side.x *ℤ y) -ℤ (side.y *ℤ x)) -ℤ side.begin)
+box_left_of_side a b p box side x y side_is to_east to_west to_south to_north is =
+    between side.begin (side_of a b p side side_is)
+    (product_at_most side.x p.y y (λ h. up is.north (to_north h)) (λ h. down is.south (to_south h)))
+    (product_at_most side.y x p.x (λ h. down is.west (to_west h)) (λ h. up is.east (to_east h)))
   where
     up : {m n far : ℤ} → m ≤ℤ n → far ≡ n → m ≤ℤ far
     up h e = omega (arith, ints)
@@ -115,8 +112,8 @@ box_right_of_side a b p box side x y side_is to_east to_west to_south to_north l
     down : {m n far : ℤ} → n ≤ℤ m → far ≡ n → far ≤ℤ m
     down h e = omega (arith, ints)
 
-    between : {d e f g begin : ℤ} → d ≤ℤ e → f ≤ℤ g → (e -ℤ f) <ℤ begin → (d -ℤ g) <ℤ begin
-    between h k l = omega (arith, ints)
+    between : {c d e f g : ℤ} (begin : ℤ) → c ≡ (d -ℤ g) -ℤ begin → d ≤ℤ e → f ≤ℤ g → c ≤ℤ ((e -ℤ f) -ℤ begin)
+    between begin is h k = omega (arith, ints)
 
 -- ---- triangles with the same corners
 pub same_corners : {u v w a b c : Point} {x : Triple} → a ≡ u → b ≡ v → c ≡ w → IsInTriangle u v w x → IsInTriangle a b c x

@@ -32,9 +32,10 @@ pub record IsBounded (triangle : Triangle) : Type 0 where
   pub first : IsSideBetween triangle.u triangle.v triangle.first
   pub second : IsSideBetween triangle.v triangle.w triangle.second
 
--- its vertices are in its box, and its places are of the list
+-- its vertices are in its box, none has a number less than its least, and its places are of the list
 pub record IsCluster (corners : List Point) (numbers : List ℕ) (cluster : Cluster) : Type 0 where
   pub boxed : (k : ℕ) → cluster.first ≤ k → k < cluster.end → Encloses cluster.bounds (vertex corners (slice_index_or numbers k 0))
+  pub numbered : (k : ℕ) → cluster.first ≤ k → k < cluster.end → cluster.least ≤ slice_index_or numbers k 0
   pub ordered : cluster.first ≤ cluster.end
   pub within : cluster.end ≤ length numbers
 

@@ -1,6 +1,6 @@
 -- The farthest of the vertices in the triangle at the first vertex of a piece. No public clause cites this module.
 use Rattle.std.specs.List.{Contains}
-use Rattle.std.specs.Prelude.{◌≡◌, ◌⊎◌, ℕ, ◌-◌, ◌<◌, ◌^◌, ℤ, pos, ◌<ℤ◌, ◌≤ℤ◌, Option, None, Some, List, length, slice_index_or, unsigned_abs}
+use Rattle.std.specs.Prelude.{◌≡◌, ◌⊎◌, ℕ, ◌-◌, ◌<◌, ◌^◌, ℤ, pos, ◌<ℤ◌, ◌≤ℤ◌, IfSome, Option, None, Some, List, length, slice_index_or, unsigned_abs}
 use Rattle.plane.specs.Point.{Point, whole}
 use Rattle.plane.specs.Triangle.{IsInTriangle, height_over}
 use Rattle.plane.specs.Turn.{determinant}
@@ -8,6 +8,8 @@ use Rattle.rings.specs.Ring.{vertex}
 use Rattle.cut_tri.specs.Piece.{TurnsLeftAt, piece_vertex, tri_at_first}
 use Rattle.cut_tri.specs.declared.farthest.Candidate.{Candidate}
 use Rattle.cut_tri.specs.declared.farthest.Corner.{Corner}
+use Rattle.cut_tri.specs.declared.farthest.Told.{Told}
+use Rattle.cut_tri.specs.declared.farthest.Told.TheVariants.{Nothing, Best}
 
 -- a vertex, with its height over the line through the last and the second vertex of the piece
 abbrev pub candidate_of : List Point → List ℕ → ℕ → Candidate
@@ -38,19 +40,52 @@ pub record IsCandidate (corner : Corner) (number : ℕ) (p : Point) : Type 0 whe
   pub not_first : ¬ (number ≡ corner.tri.a)
   pub not_last : ¬ (number ≡ corner.tri.c)
 
--- the vertex with the number at a place is no candidate, or the one at the corner
-abbrev pub HasNoCandidateAt : Corner → List Point → List ℕ → ℕ → Type 0
-HasNoCandidateAt corner corners numbers k =
-    ¬ (slice_index_or numbers k 0 ≡ corner.tri.b) → ¬ (IsCandidate corner (slice_index_or numbers k 0) (vertex corners (slice_index_or numbers k 0)))
-
--- the ring turns left at each candidate but the vertex at the corner
-abbrev pub CandidatesTurnLeft : Corner → List Point → Type 0
-CandidatesTurnLeft corner corners =
-    (i : ℕ) → i < length corners → ¬ (i ≡ corner.tri.b) → IsCandidate corner i (vertex corners i) → TurnsLeftAt corners (vertex corners i)
+-- the vertex with this number and its height, by the corner
+abbrev pub candidate_at : Corner → List Point → ℕ → Candidate
+candidate_at corner corners i = record { height = height_over corner.u corner.w (whole (vertex corners i)); number = i }
 
 -- the first is higher, or as high with a lesser number
 abbrev pub IsFarther : Candidate → Candidate → Type 0
 IsFarther c d = (d.height <ℤ c.height) ⊎ ((c.height ≡ d.height) × (c.number < d.number))
+
+-- a candidate is farther than the best, as each is where there is none
+abbrev pub IsFartherThanBest : Candidate → Option Candidate → Type 0
+IsFartherThanBest c None = Unit {0}
+IsFartherThanBest c (Some best) = IsFarther c best
+
+-- the vertex with the number at a place is no candidate that is farther than the best, or it is the one at the corner
+abbrev pub HasNoFartherAt : Corner → List Point → List ℕ → Option Candidate → ℕ → Type 0
+HasNoFartherAt corner corners numbers best k =
+    ¬ (slice_index_or numbers k 0 ≡ corner.tri.b) → IsCandidate corner (slice_index_or numbers k 0) (vertex corners (slice_index_or numbers k 0))
+    → ¬ IsFartherThanBest (candidate_at corner corners (slice_index_or numbers k 0)) best
+
+-- the ring turns left at each candidate that is farther than the best, but the vertex at the corner
+abbrev pub FartherTurnLeft : Corner → List Point → Option Candidate → Type 0
+FartherTurnLeft corner corners best =
+    (i : ℕ) → i < length corners → ¬ (i ≡ corner.tri.b) → IsCandidate corner i (vertex corners i)
+    → IsFartherThanBest (candidate_at corner corners i) best → TurnsLeftAt corners (vertex corners i)
+
+-- a candidate is a vertex in the corner, and not that at it
+pub record IsVertexInCorner (corner : Corner) (corners : List Point) (c : Candidate) : Type 0 where
+  pub not_first : ¬ (c.number ≡ corner.tri.b)
+  pub candidate : IsCandidate corner c.number (vertex corners c.number)
+  pub is : c ≡ candidate_at corner corners c.number
+
+-- the best is the first or a vertex in the corner, and what is farther than it is farther than the first
+pub record IsBestFrom (corner : Corner) (corners : List Point) (first best : Option Candidate) : Type 0 where
+  pub one : (best ≡ first) ⊎ IfSome best (IsVertexInCorner corner corners)
+  pub not_nearer : (c : Candidate) → IsFartherThanBest c best → IsFartherThanBest c first
+
+-- what the clusters tell: nothing, or the best, from the first on, of all that the clusters have
+abbrev pub IsToldFrom : Corner → List Point → Option Candidate → Told → Type 0
+IsToldFrom corner corners first Nothing = Unit {0}
+IsToldFrom corner corners first (Best best) = IsBestFrom corner corners first best × FartherTurnLeft corner corners best
+
+-- and that is a vertex of the piece
+abbrev pub IsToldOf : Corner → List Point → List ℕ → Option Candidate → Told → Type 0
+IsToldOf corner corners piece first Nothing = Unit {0}
+IsToldOf corner corners piece first (Best best) =
+    IsBestFrom corner corners first best × FartherTurnLeft corner corners best × IfSome best (λ b. Contains piece b.number)
 
 -- the chosen one is one of the two, and neither is farther
 pub record IsFartherOf (best : Option Candidate) (candidate chosen : Candidate) : Type 0 where

@@ -14,14 +14,15 @@ use std::sync::ledger::Ledger;
 // How many vertices a cluster has at most that has no parts.
 const LEAST: usize = 8;
 
-// The vertices at the places from `first` to before `end` of a list, which are all in the box. Its parts are the clusters from the
-// place `start` to before `own`, which is its own.
+// The vertices at the places from `first` to before `end` of a list, which are all in the box, and of which none has a number less than
+// `least`. Its parts are the clusters from the place `start` to before `own`, which is its own.
 #[derive(Clone, Copy)]
 pub(crate) struct Cluster {
     pub first: usize,
     pub end: usize,
     pub start: usize,
     pub own: usize,
+    pub least: u32,
     pub bounds: BoundingBox,
 }
 
@@ -185,15 +186,19 @@ impl Cluster {
         ensures steps { steps.new ≤ steps.old + 64 * (end - first) }
     {
         let mut bounds = BoundingBox::empty();
+        let mut least = u32::MAX;
         for place in first..end {
-            let point = BoundingBox::of(&[ring.corner(numbers[place])], steps);
+            let number = numbers[place];
+            let point = BoundingBox::of(&[ring.corner(number)], steps);
             bounds = bounds.joined(&point);
+            least = least.min(number);
         }
         Cluster {
             first,
             end,
             start,
             own: start,
+            least,
             bounds,
         }
     }
@@ -211,6 +216,7 @@ impl Cluster {
             end: next.end,
             start: self.start,
             own: next.own,
+            least: self.least.min(next.least),
             bounds: self.bounds.joined(&next.bounds),
         }
     }

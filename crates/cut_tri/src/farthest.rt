@@ -1,12 +1,15 @@
 // The vertex of a piece that a diagonal from its first vertex goes to.
-ghost use Rattle.std.specs.Prelude.{◌≡◌, ◌+◌, ◌*◌, ◌-◌, ◌<◌, ◌≤◌, ◌↔◌, ◌<ℤ◌, ◌≤ℤ◌, ℕ, IsFalse, IsTrue, IfSome, IfNone, List, OnSome, length, map};
+ghost use Rattle.std.specs.Prelude.{◌≡◌, ◌+◌, ◌*◌, ◌-◌, ◌<◌, ◌≤◌, ◌↔◌, ◌<ℤ◌, ◌≤ℤ◌, ℕ, IsTrue, IfSome, IfNone, List, OnSome, length, map, pos};
 ghost use Rattle.plane.specs.Point.{Point, whole};
 ghost use Rattle.plane.specs.Triangle.{IsInTriangle, height_over};
 ghost use Rattle.plane.specs.Turn.{IsLeft};
 ghost use Rattle.rings.specs.Ring.{vertex};
+ghost use Rattle.exact_plane.specs.Boxes.{Encloses};
 ghost use Rattle.cut_tri.specs.Clusters.{AreClusters, IsBounded};
 ghost use Rattle.cut_tri.specs.Cut.{IsPlaceInCorner};
-ghost use Rattle.cut_tri.specs.Corner.{CandidatesTurnLeft, HasNoCandidateAt, IsBest, IsCandidate, IsCornerAt, IsFarther, IsFartherOf, IsMeasured, best_height};
+ghost use Rattle.cut_tri.specs.Corner.{HasNoFartherAt, IsBest, IsBestFrom, IsCandidate, IsCornerAt, IsFarther, IsFartherOf, IsMeasured};
+ghost use Rattle.cut_tri.specs.Corner.{IsFartherThanBest, IsToldFrom, IsToldOf, best_height};
+ghost use Rattle.cut_tri.specs.declared.farthest.Candidate.{Candidate};
 ghost use Rattle.cut_tri.specs.Ordered.{IsFarthestNumber, IsOrderedFromLeast};
 ghost use Rattle.cut_tri.specs.Piece.{tri_at_first};
 
@@ -21,11 +24,11 @@ use std::alloc::Global;
 use std::cmp::Ordering;
 use std::sync::ledger::Ledger;
 
-// How many vertices are looked at before the clusters are asked.
-const NEAR: usize = 8;
+// The rank of the vertex at which the clusters are asked: those at the ranks before it but v were looked at.
+const NEAR: usize = 6;
 
-// Where no more than so many can be in the triangle, all are looked at, since to ask takes as long as to look at some 50.
-const FAR: usize = 56;
+// Where no more than so many can be in the triangle, all are looked at, since to ask takes as long as to look at some 40.
+const FAR: usize = 40;
 
 // The triangle at the first vertex v of a piece, counterclockwise: the later of u and w, and how far v is from the line
 // through them.
@@ -44,6 +47,15 @@ struct Corner {
 pub(crate) struct Candidate {
     height: i64,
     number: u32,
+}
+
+// What the clusters tell of the vertices in the triangle.
+#[derive(Clone, Copy)]
+enum Told {
+    // Nothing: they were not asked, or there is no memory for them.
+    Nothing,
+    // The best of all.
+    Best(Option<Candidate>),
 }
 
 impl Candidate {
@@ -79,8 +91,7 @@ pub(crate) fn farthest<L: Ledger>(
 }
 
 // The best vertex in the triangle. The first vertex is the least of all, and the farther right a point of the triangle is the
-// nearer it is at most, so the search ends where all are nearer than the best. Where it finds none for long, most often there
-// is none, which the clusters tell.
+// nearer it is at most, so the search ends where all are nearer than the best. Where that is not soon, the clusters tell it.
 fn best_in<L: Ledger>(
     alloc: Global,
     corner: &Corner,
@@ -101,8 +112,10 @@ fn best_in<L: Ledger>(
     let last = piece.order.len() - 1;
     let mut best: Option<Candidate> = None;
     for rank in 1..piece.order.len() {
-        if corner.is_told_empty(alloc, ring, piece, rank, best, clusters, steps) {
-            return None;
+        if rank == NEAR
+            && let Told::Best(told) = corner.told(alloc, ring, piece, best, clusters, steps)
+        {
+            return told;
         }
         let number = piece.order[last - rank];
         if count <= number {
@@ -155,6 +168,32 @@ fn height_of(best: Option<Candidate>) -> i64
     match best {
         Some(best) => best.height,
         None => 0,
+    }
+}
+
+// Whether no vertex of a cluster in the triangle is farther than the best, whose height is `least`: all are nearer, or at most as far
+// and have greater numbers.
+fn is_passed(triangle: &Triangle, cluster: &Cluster, best: Option<Candidate>, least: i64) -> bool
+    requires counterclockwise { IsLeft (whole triangle.now.u) (whole triangle.now.v) (whole triangle.now.w) }
+    requires bounded { IsBounded triangle.now }
+    requires least { least ≡ best_height best }
+    ensures passed { IsTrue result → (c : Candidate) (p : Point) → cluster.now.least ≤ c.number → Encloses cluster.now.bounds p
+        → IsInTriangle triangle.now.u triangle.now.v triangle.now.w (whole p) → c.height ≡ height_over triangle.now.u triangle.now.w (whole p)
+        → ¬ IsFartherThanBest c best }
+{
+    if triangle.misses(&cluster.bounds, least) {
+        return true;
+    }
+    best.is_some() && triangle.misses(&cluster.bounds, least_height(best, cluster.least))
+}
+
+// How far a vertex whose number is not less than this one has to be at least, to be farther than the best.
+fn least_height(best: Option<Candidate>, number: u32) -> i64
+    ensures { (c : Candidate) → number ≤ c.number → ¬ (c.height <ℤ pos 0) → c.height <ℤ result → ¬ IsFartherThanBest c best }
+{
+    match best {
+        Some(best) if best.number <= number => best.height.saturating_add(1),
+        _ => height_of(best),
     }
 }
 
@@ -217,34 +256,33 @@ impl Corner {
         is_less_share(rest, whole, height_of(best), self.height)
     }
 
-    // Whether the clusters tell that no vertex of the ring but the three is in the triangle, convex ones aside. They are asked at one
-    // rank alone, where none was found before, and the search does not end soon.
-    fn is_told_empty<L: Ledger>(
+    // What the clusters tell, which are made here where there are none. They are not asked where the search ends soon. It takes at
+    // most 371 steps a vertex of the ring, and 1168.
+    #[inline(never)]
+    fn told<L: Ledger>(
         &self,
         alloc: Global,
         ring: &Ring,
         piece: &Piece,
-        rank: usize,
-        best: Option<Candidate>,
+        first: Option<Candidate>,
         clusters: &mut Option<Clusters>,
         steps: &mut Steps<L>,
-    ) -> bool
+    ) -> Told
         requires counterclockwise { IsLeft (whole self.now.u) (whole self.now.v) (whole self.now.w) }
+        requires some { 0 < length piece.now.boundary }
         requires clusters { IfSome clusters.old (AreClusters ring.now.corners) }
-        ensures empty { IsTrue result → CandidatesTurnLeft self.now ring.now.corners }
+        ensures told { IsToldOf self.now ring.now.corners piece.now.boundary first result }
         ensures clusters { IfSome clusters.new (AreClusters ring.now.corners) }
-        ensures near { IsTrue result → rank ≡ 8 }
-        ensures before { rank < 8 → steps.new ≡ steps.old }
-        ensures behind { 8 < rank → steps.new ≡ steps.old }
         ensures steps { steps.new ≤ steps.old + (371 * length ring.now.corners + 1168) }
     {
-        if rank != NEAR || best.is_some() {
-            return false;
-        }
         if self.ends_soon(ring, piece, steps) {
-            return false;
+            return Told::Nothing;
         }
-        self.is_empty(alloc, ring, clusters, steps)
+        make_clusters(alloc, ring, clusters, steps);
+        match &*clusters {
+            Some(made) => self.told_of(ring, piece, made, first, steps),
+            None => Told::Nothing,
+        }
     }
 
     // Whether the search ends soon: the order does, or the vertex at a later rank is right of the triangle. It takes at most one step.
@@ -259,72 +297,80 @@ impl Corner {
         number < ring.len() && order(&self.end, &ring.corner(number), steps) == Ordering::Less
     }
 
-    // Whether no vertex of the ring but the three is in the triangle, convex ones aside, by clusters that are made here where there are
-    // none. Without memory for them it is taken for not empty. It takes at most 371 steps a vertex of the ring, and 1167.
-    fn is_empty<L: Ledger>(
+    // What these clusters tell: the best, where it is seen to be of the piece.
+    fn told_of<L: Ledger>(
         &self,
-        alloc: Global,
         ring: &Ring,
-        clusters: &mut Option<Clusters>,
+        piece: &Piece,
+        clusters: &Clusters,
+        first: Option<Candidate>,
         steps: &mut Steps<L>,
-    ) -> bool
+    ) -> Told
         requires counterclockwise { IsLeft (whole self.now.u) (whole self.now.v) (whole self.now.w) }
-        requires clusters { IfSome clusters.old (AreClusters ring.now.corners) }
-        ensures empty { IsTrue result → CandidatesTurnLeft self.now ring.now.corners }
-        ensures clusters { IfSome clusters.new (AreClusters ring.now.corners) }
-        ensures steps { steps.new ≤ steps.old + (371 * length ring.now.corners + 1167) }
+        requires some { 0 < length piece.now.boundary }
+        requires clusters { AreClusters ring.now.corners clusters.now }
+        ensures told { IsToldOf self.now ring.now.corners piece.now.boundary first result }
+        ensures steps { steps.new ≤ steps.old + (64 * length ring.now.corners + 768) }
     {
-        make_clusters(alloc, ring, clusters, steps);
-        match &*clusters {
-            Some(made) => self.is_empty_among(ring, made, steps),
-            None => false,
+        match self.told_from(ring, clusters, first, steps) {
+            Told::Best(Some(best)) if !piece.boundary.has_likely(best.number) => Told::Nothing,
+            told => told,
         }
     }
 
-    // Whether none is, by these clusters. They are asked from the last on, so that each comes before its parts: those are passed
-    // over where the triangle misses its box. That so all vertices are cleared is seen here. A vertex takes at most 64 steps.
-    fn is_empty_among<L: Ledger>(
+    // The best of this one and all vertices in the triangle, convex ones aside, by these clusters. They are asked from the last on, so
+    // that each comes before its parts: those are passed over where all in its box are out of the triangle or too near.
+    // That so all vertices are passed is seen here. A vertex takes at most 64 steps.
+    fn told_from<L: Ledger>(
         &self,
         ring: &Ring,
         clusters: &Clusters,
+        first: Option<Candidate>,
         steps: &mut Steps<L>,
-    ) -> bool
+    ) -> Told
         requires counterclockwise { IsLeft (whole self.now.u) (whole self.now.v) (whole self.now.w) }
         requires clusters { AreClusters ring.now.corners clusters.now }
-        ensures empty { IsTrue result → CandidatesTurnLeft self.now ring.now.corners }
+        ensures told { IsToldFrom self.now ring.now.corners first result }
         ensures steps { steps.new ≤ steps.old + (64 * length ring.now.corners + 768) }
     {
         let triangle = Triangle::of(&self.u, &self.v, &self.w, steps);
+        let mut best = first;
+        let mut least = height_of(best);
         let mut place = clusters.numbers.len();
         let mut k = clusters.clusters.len();
         while 0 < k {
             k -= 1;
             let cluster = &clusters.clusters[k];
-            let misses = triangle.misses(&cluster.bounds);
-            if !misses && cluster.start < cluster.own {
+            let passed = is_passed(&triangle, cluster, best, least);
+            if !passed && cluster.start < cluster.own {
                 k = cluster.own.min(k);
                 continue;
             }
             if cluster.end != place {
-                return false;
+                return Told::Nothing;
             }
-            if !misses && self.has_any(&triangle, clusters, cluster, steps) {
-                return false;
+            if !passed {
+                best = self.best_of(&triangle, clusters, cluster, best, steps);
+                least = height_of(best);
             }
             place = cluster.first;
             k = cluster.start.min(k);
         }
-        place == 0
+        if place != 0 {
+            return Told::Nothing;
+        }
+        Told::Best(best)
     }
 
-    // Whether a vertex of this cluster is in the triangle, and none of the three. A vertex takes at most 64 steps.
-    fn has_any<L: Ledger>(
+    // The best of this one and the vertices of this cluster in the triangle. A vertex takes at most 64 steps.
+    fn best_of<L: Ledger>(
         &self,
         triangle: &Triangle,
         clusters: &Clusters,
         cluster: &Cluster,
+        first: Option<Candidate>,
         steps: &mut Steps<L>,
-    ) -> bool
+    ) -> Option<Candidate>
         requires u { triangle.now.u ≡ self.now.u }
         requires v { triangle.now.v ≡ self.now.v }
         requires w { triangle.now.w ≡ self.now.w }
@@ -332,33 +378,48 @@ impl Corner {
         requires ordered { cluster.now.first ≤ cluster.now.end }
         requires within { cluster.now.end ≤ length clusters.now.numbers.items }
         requires points { length clusters.now.points.items ≡ length clusters.now.numbers.items }
-        ensures out { IsFalse result → (corners : List Point) → clusters.now.points.items ≡ map (vertex corners) clusters.now.numbers.items
-            → (k : ℕ) → cluster.now.first ≤ k → k < cluster.now.end → HasNoCandidateAt self.now corners clusters.now.numbers.items k }
+        ensures best { (corners : List Point) → clusters.now.points.items ≡ map (vertex corners) clusters.now.numbers.items
+            → IsBestFrom self.now corners first result }
+        ensures passed { (corners : List Point) → clusters.now.points.items ≡ map (vertex corners) clusters.now.numbers.items
+            → (k : ℕ) → cluster.now.first ≤ k → k < cluster.now.end → HasNoFartherAt self.now corners clusters.now.numbers.items result k }
         ensures steps { steps.new ≤ steps.old + 64 * (cluster.now.end - cluster.now.first) }
     {
+        let mut best = first;
         for place in cluster.first..cluster.end {
             let number = clusters.numbers[place];
-            if self.has(triangle, number, &clusters.points[place], steps) {
-                return true;
+            if let Some(candidate) = self.hit(triangle, number, &clusters.points[place], steps) {
+                best = Some(farther(best, candidate));
             }
         }
-        false
+        best
     }
 
-    // Whether the vertex with this number, which is at this point, is in the triangle, and none of the three. It takes 64 steps.
-    fn has<L: Ledger>(&self, triangle: &Triangle, number: u32, p: &Pt, steps: &mut Steps<L>) -> bool
+    // The vertex with this number, which is at this point, if it is in the triangle, and none of the three. It takes 64 steps.
+    fn hit<L: Ledger>(
+        &self,
+        triangle: &Triangle,
+        number: u32,
+        p: &Pt,
+        steps: &mut Steps<L>,
+    ) -> Option<Candidate>
         requires u { triangle.now.u ≡ self.now.u }
         requires v { triangle.now.v ≡ self.now.v }
         requires w { triangle.now.w ≡ self.now.w }
         requires bounded { IsBounded triangle.now }
-        ensures out { IsFalse result → ¬ (number ≡ self.now.tri.b) → ¬ (IsCandidate self.now number p.now) }
+        ensures inside { OnSome result (¬ (number ≡ self.now.tri.b) × IsCandidate self.now number p.now) }
+        ensures candidate { IfSome result (λ candidate. candidate ≡ record {
+          height = height_over self.now.u self.now.w (whole p.now);
+          number = number;
+        }) }
+        ensures outside { IfNone result (¬ (number ≡ self.now.tri.b) → ¬ (IsCandidate self.now number p.now)) }
         ensures steps { steps.new ≡ steps.old + 64 }
     {
         let (x, y) = p.parts(steps);
-        if triangle.misses_point(x, y) {
-            return false;
+        let height = triangle.height(x, y)?;
+        if number == self.tri.a || number == self.tri.b || number == self.tri.c {
+            return None;
         }
-        number != self.tri.a && number != self.tri.b && number != self.tri.c
+        Some(Candidate { height, number })
     }
 
     // The vertex with this number and at this point, if it is in the closed triangle and neither of u and w. It takes at most 259

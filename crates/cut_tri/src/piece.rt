@@ -1,6 +1,6 @@
 // Pieces of a polygon: some of its vertices, by their numbers.
 ghost use Rattle.std.specs.List.{Contains};
-ghost use Rattle.std.specs.Prelude.{◌≡◌, ◌<◌, ◌≤◌, ℕ, IfOk, OnOk, [], ◌∷◌, ◌++◌, drop, length, slice_index_or, take};
+ghost use Rattle.std.specs.Prelude.{◌≡◌, ◌<◌, ◌≤◌, ℕ, IfOk, IsTrue, OnOk, [], ◌∷◌, ◌++◌, drop, length, slice_index_or, take};
 
 use exact_plane::Memory;
 use std::alloc::Global;
@@ -171,6 +171,14 @@ impl Boundary {
             }
         }
         last
+    }
+
+    // Whether a number is where it is likely to be. Where it is not told so it may be anywhere.
+    pub(crate) fn has_likely(&self, number: u32) -> bool
+        requires { 0 < length self.now }
+        ensures { IsTrue result → Contains self.now number }
+    {
+        self.at(self.likely_place(number)) == number
     }
 
     // The place where a number is if it is where the arcs meet, or numbers rise.

@@ -1,9 +1,9 @@
 // A triangle with the box round it, to tell which other boxes have none of its points.
-ghost use Rattle.std.specs.Prelude.{◌≡◌, ◌+◌, ◌<◌, ◌^◌, ◌*ℤ◌, ◌-ℤ◌, ◌<ℤ◌, IsTrue, unsigned_abs};
+ghost use Rattle.std.specs.Prelude.{◌≡◌, ◌+◌, ◌<◌, ◌^◌, ◌*ℤ◌, ◌-ℤ◌, ◌<ℤ◌, ◌≤ℤ◌, IfNone, IfSome, IsTrue, OnSome, unsigned_abs};
 ghost use Rattle.exact_plane.specs.Boxes.{Encloses};
 ghost use Rattle.plane.specs.Point.{Point, whole};
-ghost use Rattle.plane.specs.Triangle.{IsInTriangle};
-ghost use Rattle.plane.specs.Turn.{IsLeft, IsRight};
+ghost use Rattle.plane.specs.Triangle.{IsInTriangle, height_over};
+ghost use Rattle.plane.specs.Turn.{IsLeft, determinant};
 ghost use Rattle.cut_tri.specs.Clusters.{IsBounded, IsSideBetween, HasSmallNumbers};
 
 use crate::measure::{cross_product, way};
@@ -54,33 +54,46 @@ impl Triangle {
         }
     }
 
-    // Whether its box is apart from another, or one of its sides at v has that on its right. The third side would tell hardly more.
-    pub(crate) fn misses(&self, other: &BoundingBox) -> bool
+    // Whether all its points that another box has are nearer to the side across from v than `least`: its own box is apart from that,
+    // or a side at v has it on its right, or so near is the corner of it that is farthest from the side across.
+    pub(crate) fn misses(&self, other: &BoundingBox, least: i64) -> bool
         requires counterclockwise { IsLeft (whole self.now.u) (whole self.now.v) (whole self.now.w) }
         requires bounded { IsBounded self.now }
-        ensures apart { IsTrue result → (p : Point) → Encloses other.now p → ¬ (IsInTriangle self.now.u self.now.v self.now.w (whole p)) }
+        ensures nearer { IsTrue result → (p : Point) → Encloses other.now p → IsInTriangle self.now.u self.now.v self.now.w (whole p)
+            → height_over self.now.u self.now.w (whole p) <ℤ least }
     {
         if !self.bounds.overlaps(other) {
             return true;
         }
-        self.first.is_left_of(other) || self.second.is_left_of(other)
+        if self.first.most_left(other) < 0 {
+            return true;
+        }
+        if self.second.most_left(other) < 0 {
+            return true;
+        }
+        self.across.most_left(other) < least
     }
 
-    // Whether one of its sides has a point on its right.
-    pub(crate) fn misses_point(&self, x: i64, y: i64) -> bool
+    // How far a point of it is from the side across from v.
+    pub(crate) fn height(&self, x: i64, y: i64) -> Option<i64>
         requires bounded { IsBounded self.now }
         requires x { unsigned_abs x < 2 ^ 32 }
         requires y { unsigned_abs y < 2 ^ 32 }
-        ensures apart { IsTrue result → (p : Point) → p.x ≡ x → p.y ≡ y
-            → ¬ (IsInTriangle self.now.u self.now.v self.now.w (whole p)) }
+        ensures inside { OnSome result ((p : Point) → p.x ≡ x → p.y ≡ y → IsInTriangle self.now.u self.now.v self.now.w (whole p)) }
+        ensures height { IfSome result (λ height. (p : Point) → p.x ≡ x → p.y ≡ y → height ≡ height_over self.now.u self.now.w (whole p)) }
+        ensures outside { IfNone result ((p : Point) → p.x ≡ x → p.y ≡ y → ¬ (IsInTriangle self.now.u self.now.v self.now.w (whole p))) }
     {
-        if self.across.has_on_right(x, y) {
-            return true;
+        let height = self.across.left_by(x, y);
+        if height < 0 {
+            return None;
         }
-        if self.first.has_on_right(x, y) {
-            return true;
+        if self.first.left_by(x, y) < 0 {
+            return None;
         }
-        self.second.has_on_right(x, y)
+        if self.second.left_by(x, y) < 0 {
+            return None;
+        }
+        Some(height)
     }
 }
 
@@ -99,11 +112,11 @@ impl Side {
         }
     }
 
-    // Whether a box is right of its line. The corner of the box that is farthest left tells that.
-    fn is_left_of(&self, bounds: &BoundingBox) -> bool
+    // How far left of its line the points of a box are at most. The corner of the box that is farthest left tells that.
+    fn most_left(&self, bounds: &BoundingBox) -> i64
         requires { HasSmallNumbers self.now }
-        ensures right { IsTrue result → (a b : Point) → IsSideBetween a b self.now → (p : Point) → Encloses bounds.now p
-            → IsRight (whole a) (whole b) (whole p) }
+        ensures most { (a b : Point) → IsSideBetween a b self.now → (p : Point) → Encloses bounds.now p
+            → determinant (whole a) (whole b) (whole p) ≤ℤ result }
     {
         let x = if self.y < 0 { bounds.east } else { bounds.west };
         let y = if self.x < 0 {
@@ -111,17 +124,17 @@ impl Side {
         } else {
             bounds.north
         };
-        self.has_on_right(x as i64, y as i64)
+        self.left_by(x as i64, y as i64)
     }
 
-    // Whether a point is right of its line.
+    // How far left of its line a point is, times its length: less than 0 where it is right of it.
     #[tactic(auto, using(exact_plane::proofs::CrossProduct::products))]
-    fn has_on_right(&self, x: i64, y: i64) -> bool
+    fn left_by(&self, x: i64, y: i64) -> i64
         requires small { HasSmallNumbers self.now }
         requires x { unsigned_abs x < 2 ^ 32 }
         requires y { unsigned_abs y < 2 ^ 32 }
-        ensures { IsTrue result → ((self.now.x *ℤ y) -ℤ (self.now.y *ℤ x)) <ℤ self.now.begin }
+        ensures { result ≡ ((self.now.x *ℤ y) -ℤ (self.now.y *ℤ x)) -ℤ self.now.begin }
     {
-        self.x * y - self.y * x < self.begin
+        self.x * y - self.y * x - self.begin
     }
 }

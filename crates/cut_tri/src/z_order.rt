@@ -1,5 +1,5 @@
-// The vertices of a ring that are not convex along the curve of Morton 1966, the Z-order: of those that are near to one another most
-// have near places.
+// The vertices of a ring that are not convex along the curve of Morton 1966, the Z-order, from its end on: of those that are near to one
+// another most have near places.
 ghost use Rattle.std.specs.Prelude.{◌≡◌, ◌+◌, ◌*◌, ◌<◌, ◌≤◌, ◌↔◌, ◌^◌, IfOk, IsTrue, length, map, unsigned_abs};
 ghost use Rattle.rings.specs.Orientation.{turn_at};
 ghost use Rattle.exact_plane.specs.Direction.{direction_of};
@@ -10,7 +10,7 @@ use ring_check::Ring;
 use std::alloc::Global;
 use std::sync::ledger::Ledger;
 
-// A vertex by its place on the curve, then its number.
+// A vertex by its place on the curve, from the end of that on, then its number.
 #[derive(Clone, Copy, PartialEq, Eq, PartialOrd, Ord)]
 pub(crate) struct Key {
     pub code: u64,
@@ -43,7 +43,7 @@ fn keys_of<L: Ledger>(alloc: Global, ring: &Ring, steps: &mut Steps<L>) -> Resul
             continue;
         }
         let (x, y) = ring.corner(number).parts(steps);
-        let code = (spread(x) << 1) | spread(y);
+        let code = !((spread(x) << 1) | spread(y));
         keys.push(Key { code, number })?;
     }
     Ok(keys)

@@ -1,31 +1,30 @@
-use Rattle.std.proofs.Common.{◌≡◌, inl, inr, sym, ap, subst, ◌∙◌, ℕ, ◌+◌, ◌-◌, ◌*◌, ◌<◌, ◌≤◌, ◌≤ℤ◌, List, length, get_or, arith}
-use Rattle.std.proofs.lemmas.Bool.{cases_lt}
+use Rattle.std.proofs.Common.{◌≡◌, ◌⊎◌, inl, inr, sym, ap, subst, ◌∙◌, ℕ, ◌+◌, ◌-◌, ◌*◌, ◌<◌, ◌≤◌, ◌≤ℤ◌, List, length, get_or, arith}
 use Rattle.std.proofs.lemmas.List.{get_or_default}
 use Rattle.std.proofs.lemmas.List.Elements.{Contains-get_or}
 use Rattle.std.specs.List.{Contains}
+use Rattle.std.specs.Prelude.{IfSome}
 use Rattle.plane.specs.Point.{Point}
 use Rattle.rings.specs.Ring.{vertex}
 use Rattle.cut_tri.proofs.Candidates.{IsBestBelow, best_more, best_of_all, best_past, none_below, of_rank}
-use Rattle.cut_tri.proofs.EmptyCorners.{none_is_best}
 use Rattle.cut_tri.proofs.Ends.{rank_in, rank_or_right}
 use Rattle.cut_tri.proofs.Looks.{candidate_is, first_not_right, in_corner, is_candidate, left_at_corner, nearer_at, not_least, order_some, rank_more}
 use Rattle.cut_tri.proofs.Members.{members_of_numbers}
 use Rattle.cut_tri.proofs.Orders.{least_below}
 use Rattle.cut_tri.proofs.SeenVertices.{seen, seen_few, seen_first, seen_more, seen_no_more}
+use Rattle.cut_tri.proofs.ToldCorners.{told_is_best}
+use Rattle.cut_tri.specs.Clusters.{AreClusters}
 use Rattle.cut_tri.specs.Corner.{IsFartherOf, IsInCornerOf, best_height, candidate_of}
 use Rattle.cut_tri.proofs.farthest.best_in.Goals as goal
 use Rattle.cut_tri.proofs.farthest.best_in.Goals.{in-Some, in_default}
+use Rattle.cut_tri.proofs.farthest.best_in.Goals.{else-rank-eq-NEAR-via-else-rank-eq-NEAR, else-rank-eq-NEAR-via-then-rank-eq-NEAR+in-Nothing-1}
 
 -- the steps so far, where the clusters are asked at one rank alone
-steps_so_far : (rank few most old new : ℕ) → (rank ≤ 8 → old ≤ few) → old ≤ few + most → (rank < 8 → new ≡ old) → (8 < rank → new ≡ old)
-    → new ≤ old + most → (rank + 1 ≤ 8 → new ≤ few) × (new ≤ few + most)
-steps_so_far rank few most old new is_few is_most before behind after = (
-  λ below. omega (arith, is_few (omega (arith, below)), before (omega (arith, below))),
-  elim (cases_lt 8 rank) [
-    | inl less ↦ omega (arith, behind less, is_most)
-    | inr near ↦ omega (arith, is_few near, after)
-  ],
-)
+steps_so_far : (rank few most old new : ℕ) → (rank ≤ 6 → old ≤ few) → old ≤ few + most → ((¬ (rank ≡ 6)) × (new ≡ old)) ⊎ ((rank ≡ 6) × (new ≤ old + most))
+    → (rank + 1 ≤ 6 → new ≤ few) × (new ≤ few + most)
+steps_so_far rank few most old new is_few is_most asked = elim asked [
+  | inl not ↦ (λ below. omega (arith, below, is_few (omega (arith, below)), not.1), omega (arith, is_most, not.1))
+  | inr is ↦ (λ below. absurd (omega (arith, below, is.0)), omega (arith, is.0, is.1, is_few (omega (arith, is.0))))
+]
 
 -- the number at a place from the end of an order is that of its rank
 number_at : (os : List ℕ) (last n i : ℕ) → n < length os → last ≡ length os - 1 → i ≡ get_or os (last - n) i → i ≡ of_rank os n
@@ -106,12 +105,19 @@ loop-rank-preserved g c =
           (λ h. w.in_default.ensures.outside (is_candidate corners xs c.args.corner.now at i c.corner-p.result c.corner-p.ensures (subst (IsInCornerOf corners xs) (sym is) h))))
     ] in
     let so_far =
-    steps_so_far n (c.args.steps.now + 515 * (seen (length corners) os n - 1)) (371 * length corners + 1168) c.loop-rank.steps c.is_told_empty.new.steps
-    c.loop-rank.invariant.few (omega (arith, c.loop-rank.invariant.steps)) c.is_told_empty.ensures.before c.is_told_empty.ensures.behind
-    c.is_told_empty.ensures.steps in
+    steps_so_far n (c.args.steps.now + 515 * (seen (length corners) os n - 1)) (371 * length corners + 1168) c.loop-rank.steps c.else-rank-eq-NEAR.steps
+    c.loop-rank.invariant.few (omega (arith, c.loop-rank.invariant.steps))
+    (elim c.else-rank-eq-NEAR.branch [
+      | else-rank-eq-NEAR-via-else-rank-eq-NEAR w ↦ inl (λ e. omega (arith, e, w.if-rank-eq-NEAR.false), w.steps-is)
+      | else-rank-eq-NEAR-via-then-rank-eq-NEAR+in-Nothing-1 w ↦
+          inr (omega (arith, w.if-rank-eq-NEAR.true), omega (arith, w.steps-is, w.told.ensures.steps))
+    ]) in
     record {
       best = best;
-      clusters = c.is_told_empty.ensures.clusters;
+      clusters = elim c.else-rank-eq-NEAR.branch [
+        | else-rank-eq-NEAR-via-else-rank-eq-NEAR w ↦ subst (λ o. IfSome o (AreClusters corners)) (sym w.clusters-is) c.loop-rank.invariant.clusters
+        | else-rank-eq-NEAR-via-then-rank-eq-NEAR+in-Nothing-1 w ↦ subst (λ o. IfSome o (AreClusters corners)) (sym w.clusters-is) w.told.ensures.clusters
+      ];
       some = omega (arith, more);
       few = λ below. omega (arith, so_far.0 below, more, c.loop-rank.invariant.some, c.is_nearer_from.ensures.steps, c.candidate.ensures.steps);
       steps = omega (arith, so_far.1, more, c.loop-rank.invariant.some, c.is_nearer_from.ensures.steps, c.candidate.ensures.steps);
@@ -131,13 +137,20 @@ loop-rank-preserved-then-count-number g c =
     let more = seen_no_more (length corners) os n within high in
     let numbers = c.requires.ordered.ordered.0.numbers in
     let so_far =
-    steps_so_far n (c.args.steps.now + 515 * (seen (length corners) os n - 1)) (371 * length corners + 1168) c.loop-rank.steps c.is_told_empty.new.steps
-    c.loop-rank.invariant.few (omega (arith, c.loop-rank.invariant.steps)) c.is_told_empty.ensures.before c.is_told_empty.ensures.behind
-    c.is_told_empty.ensures.steps in
+    steps_so_far n (c.args.steps.now + 515 * (seen (length corners) os n - 1)) (371 * length corners + 1168) c.loop-rank.steps c.else-rank-eq-NEAR.steps
+    c.loop-rank.invariant.few (omega (arith, c.loop-rank.invariant.steps))
+    (elim c.else-rank-eq-NEAR.branch [
+      | else-rank-eq-NEAR-via-else-rank-eq-NEAR w ↦ inl (λ e. omega (arith, e, w.if-rank-eq-NEAR.false), w.steps-is)
+      | else-rank-eq-NEAR-via-then-rank-eq-NEAR+in-Nothing-1 w ↦
+          inr (omega (arith, w.if-rank-eq-NEAR.true), omega (arith, w.steps-is, w.told.ensures.steps))
+    ]) in
     record {
       best = best_past corners xs os n c.loop-rank.best c.loop-rank.invariant.best
           (λ in_n. let low = members_of_numbers (length corners) xs numbers (of_rank os n) in_n.member in omega (arith, low, high));
-      clusters = c.is_told_empty.ensures.clusters;
+      clusters = elim c.else-rank-eq-NEAR.branch [
+        | else-rank-eq-NEAR-via-else-rank-eq-NEAR w ↦ subst (λ o. IfSome o (AreClusters corners)) (sym w.clusters-is) c.loop-rank.invariant.clusters
+        | else-rank-eq-NEAR-via-then-rank-eq-NEAR+in-Nothing-1 w ↦ subst (λ o. IfSome o (AreClusters corners)) (sym w.clusters-is) w.told.ensures.clusters
+      ];
       some = omega (arith, more, c.loop-rank.invariant.some);
       few = λ below. omega (arith, so_far.0 below, more);
       steps = omega (arith, so_far.1, more);
@@ -173,22 +186,23 @@ returns-then-is_nearer_from-clause-best g c =
           (subst (λ (p : Point). p.x ≤ℤ (vertex corners i).x) (sym (c.corner-p.ensures ∙ ap (vertex corners) is)) right)) in_i)
     ])
 
-pub is_told_empty-requires-clause-counterclockwise : goal.is_told_empty-requires-clause-counterclockwise
-is_told_empty-requires-clause-counterclockwise g c =
+pub told-requires-clause-counterclockwise : goal.told-requires-clause-counterclockwise
+told-requires-clause-counterclockwise g c =
     let least = least_below c.args.ring.now.corners c.args.piece.now.boundary c.args.piece.now.order.items c.requires.ordered.ordered.1 c.requires.ordered.ordered.0.numbers 0 c.requires.ordered.least in
     left_at_corner c.args.ring.now.corners c.args.piece.now.boundary c.args.corner.now c.requires.corner c.requires.ordered.ordered.0 least
 
-pub returns-then-is_told_empty-clause-best : goal.returns-then-is_told_empty-clause-best
-returns-then-is_told_empty-clause-best g c =
+pub returns-in-loop-rank-clause-best : goal.returns-in-loop-rank-clause-best
+returns-in-loop-rank-clause-best g c =
     let least = least_below c.args.ring.now.corners c.args.piece.now.boundary c.args.piece.now.order.items c.requires.ordered.ordered.1 c.requires.ordered.ordered.0.numbers 0 c.requires.ordered.least in
-    none_is_best c.args.ring.now.corners c.args.piece.now.boundary c.args.corner.now c.requires.corner c.requires.ordered.ordered.0 least
-    (c.is_told_empty.ensures.empty c.if-is_told_empty.true)
+    let told = c.in-Best.ensures.told in
+    told_is_best c.args.ring.now.corners c.args.piece.now.boundary c.args.corner.now c.requires.corner c.requires.ordered.ordered.0 least c.in-Best.told told.1
+    c.args.piece.now.order.items c.loop-rank.rank c.loop-rank.best c.loop-rank.invariant.best told.0 told.2
 
-pub returns-then-is_told_empty-clause-steps : goal.returns-then-is_told_empty-clause-steps
-returns-then-is_told_empty-clause-steps g c =
+pub returns-in-loop-rank-clause-steps : goal.returns-in-loop-rank-clause-steps
+returns-in-loop-rank-clause-steps g c =
     let most = seen_few c.args.ring.now.corners c.args.piece.now.boundary c.args.piece.now.order.items c.requires.ordered.ordered.1 c.loop-rank.rank in
-    let near = c.is_told_empty.ensures.near c.if-is_told_empty.true in
-    omega (arith, most, near, c.loop-rank.invariant.some, c.is_told_empty.ensures.steps, c.loop-rank.invariant.few (omega (arith, near)))
+    let near = c.if-rank-eq-NEAR.true in
+    omega (arith, most, near, c.loop-rank.invariant.some, c.told.ensures.steps, c.loop-rank.invariant.few (omega (arith, near)))
 
 pub returns-then-is_nearer_from-clause-steps : goal.returns-then-is_nearer_from-clause-steps
 returns-then-is_nearer_from-clause-steps g c =
@@ -200,9 +214,13 @@ returns-then-is_nearer_from-clause-steps g c =
     let is : c.index-number.result.now ≡ of_rank os n = number_at os (c.len-last.result - 1) n _ within (omega (arith, size, c.len-last.ensures)) c.index-number.ensures in
     let low : of_rank os n < length corners = subst (λ j. j < length corners) is (omega (arith, c.if-count-number.false, c.len-count.ensures.number)) in
     let so_far =
-    steps_so_far n (c.args.steps.now + 515 * (seen (length corners) os n - 1)) (371 * length corners + 1168) c.loop-rank.steps c.is_told_empty.new.steps
-    c.loop-rank.invariant.few (omega (arith, c.loop-rank.invariant.steps)) c.is_told_empty.ensures.before c.is_told_empty.ensures.behind
-    c.is_told_empty.ensures.steps in
+    steps_so_far n (c.args.steps.now + 515 * (seen (length corners) os n - 1)) (371 * length corners + 1168) c.loop-rank.steps c.else-rank-eq-NEAR.steps
+    c.loop-rank.invariant.few (omega (arith, c.loop-rank.invariant.steps))
+    (elim c.else-rank-eq-NEAR.branch [
+      | else-rank-eq-NEAR-via-else-rank-eq-NEAR w ↦ inl (λ e. omega (arith, e, w.if-rank-eq-NEAR.false), w.steps-is)
+      | else-rank-eq-NEAR-via-then-rank-eq-NEAR+in-Nothing-1 w ↦
+          inr (omega (arith, w.if-rank-eq-NEAR.true), omega (arith, w.steps-is, w.told.ensures.steps))
+    ]) in
     let more = seen_more (length corners) os n within low in
     let most = seen_few corners c.args.piece.now.boundary os c.requires.ordered.ordered.1 (n + 1) in
     omega (arith, so_far.1, more, most, c.loop-rank.invariant.some, c.is_nearer_from.ensures.steps)

@@ -2,10 +2,12 @@ use Rattle.std.proofs.Common.{◌≡◌, sym, subst, ◌∙◌, ◌<◌, ◌^◌
 use lib.Signed.{lt_z}
 use Rattle.std.proofs.lemmas.Int.{ints, to_z-of_z}
 use Rattle.std.specs.Prelude.{unsigned_abs}
+use Rattle.plane.specs.Point.{whole}
+use Rattle.plane.specs.Turn.{determinant}
 use Rattle.exact_plane.proofs.Registers.{read, short}
-use Rattle.cut_tri.proofs.TriangleBoxes.{box_right_of_side}
-use Rattle.cut_tri.proofs.triangle.Side.is_left_of.Goals.{then-self-lt0, else-self-lt0, then-self-lt0-2, else-self-lt0-2}
-use Rattle.cut_tri.proofs.triangle.Side.is_left_of.Goals as goal
+use Rattle.cut_tri.proofs.TriangleBoxes.{box_left_of_side}
+use Rattle.cut_tri.proofs.triangle.Side.most_left.Goals.{then-self-lt0, else-self-lt0, then-self-lt0-2, else-self-lt0-2}
+use Rattle.cut_tri.proofs.triangle.Side.most_left.Goals as goal
 
 -- the first of two numbers is chosen where a third is negative,
 first_of : {k z x first second : ℤ} → k ≡ z → lt_z k (pos 0) ≡ true → x ≡ first → (z <ℤ pos 0 → x ≡ first) × (pos 0 ≤ℤ z → x ≡ second)
@@ -17,7 +19,7 @@ second_of {k} {z} same less is = (λ h. let other : pos 0 ≤ℤ z = omega (arit
 
 pub returns : goal.returns
 returns c = record {
-  right = λ less a b side p is.
+  most = λ a b side p is.
       let s = c.args.self.now in
       let box = c.args.bounds.now in
       let x : ℤ = to_z w32 c.if-self-lt0.x-bits in
@@ -50,6 +52,8 @@ returns c = record {
       ] in
       let x_read : read x ≡ x = to_z-of_z w64 _ (omega (arith, ints, x_small)) in
       let y_read : read y ≡ y = to_z-of_z w64 _ (omega (arith, ints, y_small)) in
-      box_right_of_side a b p box s x y side x_far.0 x_far.1 y_far.0 y_far.1
-      (subst (λ z. z <ℤ s.begin) (λ k. (s.x *ℤ y_read k) -ℤ (s.y *ℤ x_read k)) (c.has_on_right.ensures less)) is;
+      let result_read : read c.left_by.result ≡ c.left_by.result = to_z-of_z w64 _ (omega (arith, ints, c.left_by.type_inv)) in
+      subst (λ z. determinant (whole a) (whole b) (whole p) ≤ℤ z)
+      (sym (result_read ∙ c.left_by.ensures ∙ (λ k. ((s.x *ℤ y_read k) -ℤ (s.y *ℤ x_read k)) -ℤ s.begin)))
+      (box_left_of_side a b p box s x y side x_far.0 x_far.1 y_far.0 y_far.1 is);
 }
