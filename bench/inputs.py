@@ -63,6 +63,11 @@ def saw(n: int) -> Ring:
     return [(0, 0), (width // 2, -1), (width, 0)] + [(x, 2 - x % 2) for x in reversed(range(width + 1))]
 
 
+def fan(n: int) -> Ring:
+    """A triangle that has all other vertices on the side across from its least corner."""
+    return [(-100, 0)] + [(i, 2 * i) for i in range(n - 1)]
+
+
 def maze(n: int) -> Ring:
     """The boundary of a maze without rounds: corridors along a random tree."""
     corners = {0: 4, 1: 2, 2: 2, 3: 2, 4: 4}
@@ -278,7 +283,7 @@ def turned(n: int) -> Ring:
 Shape = Callable[[int], Ring]
 SHAPES: Dict[str, Shape] = {shape.__name__: shape for shape in (comb, star, maze, spiral)}
 SIX_SHAPES: Dict[str, Shape] = SHAPES | {shape.__name__: shape for shape in (convex, moon)}
-MORE_SHAPES: Dict[str, Shape] = SIX_SHAPES | {shape.__name__: shape for shape in (skyline, saw, arch, zigzag, turned, broom)}
+MORE_SHAPES: Dict[str, Shape] = SIX_SHAPES | {shape.__name__: shape for shape in (skyline, saw, fan, arch, zigzag, turned, broom)}
 WAYS: Dict[str, Shape] = {'comb': way_along_comb, 'convex': way_across_convex, 'saw': way_past_teeth}
 
 
