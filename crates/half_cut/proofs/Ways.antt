@@ -5,7 +5,7 @@ use Rattle.integer_algebra.proofs.Laws.{mul-zero, zero-mul}
 use Rattle.integer_algebra.proofs.Polynomial.{Polynomial, var, lit, ◌⊕◌, ◌⊖◌, ◌⊗◌, same_value}
 use Rattle.integer_algebra.proofs.SignSteps.{not_both, positive_not_zero, positive_of_not_zero, weak, zero_not_negative}
 use Rattle.integer_algebra.proofs.Signs.{factor_positive, factor_zero, is_negative, is_positive, is_zero, mul_negative, mul_nonnegative, mul_positive, sign}
-use Rattle.integer_algebra.proofs.Weights.{Forward}
+use Rattle.integer_algebra.proofs.Weights.{Forward, not_to_the_left}
 use Rattle.plane.proofs.Order.{same_coordinates}
 use Rattle.plane.proofs.Turns.{written_determinant}
 use Rattle.plane.specs.Line.{cross_product}
@@ -15,12 +15,7 @@ use Rattle.plane.specs.Turn.{IsRight, IsStraight, determinant}
 
 -- ---- up: to the right, or straight upward
 
--- a way up does not go to the left
-up_right : (x y : ℤ) → Forward x y → pos 0 ≤ℤ x
-up_right x y (inl h) = weak h
-up_right x y (inr h) = zero_not_negative h.0
-
--- nor does it go up turned round
+-- a way does not go up turned round
 pub not_both_up : (x y u v : ℤ) → Forward x y → Forward u v → x +ℤ u ≡ pos 0 → y +ℤ v ≡ pos 0 → ⊥
 not_both_up x y u v (inl h) (inl k) e f = omega (arith, ints, h, k, e)
 not_both_up x y u v (inl h) (inr k) e f = let k0 = k.0 in omega (arith, ints, h, k0, e)
@@ -34,7 +29,7 @@ same_up e f h = subst (λ t. t) (λ i. Forward (e i) (f i)) h
 -- a sum of multiples of two such ways
 up_sum : (k l x y u v : ℤ) → pos 0 <ℤ k → pos 0 ≤ℤ l → Forward x y → Forward u v → Forward (k *ℤ x +ℤ l *ℤ u) (k *ℤ y +ℤ l *ℤ v)
 up_sum k l x y u v hk hl (inl h) g =
-    inl (let some = mul_positive k x hk h in let more = mul_nonnegative l u hl (up_right u v g) in omega (arith, ints, some, more))
+    inl (let some = mul_positive k x hk h in let more = mul_nonnegative l u hl (not_to_the_left u v g) in omega (arith, ints, some, more))
 up_sum k l x y u v hk hl (inr h) g =
     let none : k *ℤ x ≡ pos 0 = ap (λ t. k *ℤ t) h.0 ∙ mul-zero k in
     let some = mul_positive k y hk h.1 in

@@ -45,6 +45,11 @@ module _ (l m : ℤ) (hl : pos 0 ≤ℤ l) (hm : pos 0 ≤ℤ m) (some : pos 0 <
 abbrev pub Forward : ℤ → ℤ → Type 0
 Forward x y = (pos 0 <ℤ x) ⊎ ((x ≡ pos 0) × (pos 0 <ℤ y))
 
+-- so not to the left
+pub not_to_the_left : (x y : ℤ) → Forward x y → pos 0 ≤ℤ x
+not_to_the_left x y (inl h) = omega (arith, ints, h)
+not_to_the_left x y (inr h) = let none = h.0 in omega (arith, ints, none)
+
 -- two forward vectors do not balance
 pub no_balance : (l m u v s t : ℤ) → pos 0 ≤ℤ l → pos 0 ≤ℤ m → pos 0 <ℤ (l +ℤ m)
     → l *ℤ u +ℤ m *ℤ s ≡ pos 0 → l *ℤ v +ℤ m *ℤ t ≡ pos 0 → Forward u v → Forward s t → ⊥

@@ -19,13 +19,18 @@ mod SideCounts
 mod Covered
 mod Counts
 mod PartTilings
+pub use Rattle.meshes.proofs.Boundaries.PartTilings.{IsEdgeBetween, IsPartTiling, IsSideOfOneIn, all_tile, tiling_rotated}
 -- The parts of a piece that a diagonal cuts in two, and the triangles that lie in them.
 -- A tiled piece that a shared side cuts from its first vertex to another one: the two parts, and the triangles beside the side in them.
 mod CutTilings
+pub use Rattle.meshes.proofs.Boundaries.CutTilings.{LiesInPart, beside_both, some_after, some_before}
 mod TiledParts
+mod SideCuts
+pub use Rattle.meshes.proofs.Boundaries.SideCuts.{first_tiled, second_tiled}
 -- A tiled piece that a shared side cuts in two parts: two trees are one tree.
 mod TwoParts
 mod OneTriangle
+pub use Rattle.meshes.proofs.Boundaries.OneTriangle.{third_corner, three_vertices}
 -- Triangles that tile a piece are a tree, two fewer than it has vertices.
 mod TiledTrees
 -- Sums round a piece: read from another vertex on, and without one of the vertices.

@@ -10,7 +10,7 @@ pub use Rattle.meshes.proofs.Sides.PieceSteps.{ring_edge_is}
 mod PieceSteps
 -- The vertices of a piece: they are different where it is simple.
 mod PieceVertices
-pub use Rattle.meshes.proofs.Sides.PieceVertices.{length_points, one_number, one_place, piece_points_all, vertex_of_piece}
+pub use Rattle.meshes.proofs.Sides.PieceVertices.{edge_of_piece, length_points, one_number, one_place, piece_points_all, vertex_of_piece}
 -- The numbers in a triangulation of a ring: those of its vertices, and how many triangles there are.
 mod RingNumbers
 pub use Rattle.meshes.proofs.Sides.RingNumbers.{below_of_member, ends_below, two_fewer}

@@ -19,25 +19,11 @@ use Rattle.rings.specs.Ring.{origin, vertex}
 use Rattle.rings.specs.Simple.{IsSimple}
 use Rattle.ring_laws.proofs.Vertices.{neighbour_is, neighbours_not_on_ray, beside_differs, beside_next, edges_at, vertex_beside}
 use Rattle.meshes.proofs.Parts.{one_vertex, shared_of, vertex_is_end, end_of_side, parted, side_numbers, paved}
-use Rattle.meshes.proofs.Sides.{edge_or_not, length_points, vertex_of_piece, ring_edge_is}
+use Rattle.meshes.proofs.Sides.{edge_of_piece, edge_or_not, length_points, vertex_of_piece, ring_edge_is}
 use Rattle.meshes.specs.Fits.{FitsPiece, IsPieceEdge, piece_points}
 use Rattle.meshes.specs.Side.{HasSide, tri_at}
 use Rattle.meshes.specs.declared.tri.Tri.{Tri}
 use Rattle.funnels.specs.Fanned.{turning}
-
--- an edge of a piece is an edge of its points
-pub edge_of_piece : (corners : List Point) (piece : List ℕ) (i j : ℕ) → IsPieceEdge piece i j
-    → HasEdge (edges_of (piece_points corners piece)) (edge (vertex corners i) (vertex corners j))
-edge_of_piece corners piece i j e =
-    let ring = piece_points corners piece in
-    let p : ℕ = e.place in
-    let long = length_points corners piece in
-    let q : ℕ = (p + 1) % length piece in
-    let in_q : q < length piece = mod-lt (p + 1) (omega (arith, e.in_piece)) in
-    let from : vertex ring p ≡ vertex corners i = vertex_of_piece corners piece p e.in_piece ∙ ap (vertex corners) e.from in
-    let to : vertex ring (p + 1) ≡ vertex corners j =
-    ap (λ n. get_or ring ((p + 1) % n) origin) long ∙ get_or-map (λ k. vertex corners k) piece q 0 origin in_q ∙ ap (vertex corners) e.to in
-    subst (HasEdge (edges_of ring)) (λ k. edge (from k) (to k)) (has_edge_at ring p (omega (arith, e.in_piece, long)))
 
 module _ (corners : List Point) (piece : List ℕ) (tris : List Tri) (fits : FitsPiece corners piece tris) where
   -- a vertex on a side of a triangle is an end of the side

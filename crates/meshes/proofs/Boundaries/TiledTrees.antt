@@ -5,14 +5,14 @@ use Rattle.std.proofs.lemmas.List.{length-append}
 use Rattle.std.specs.List.{Contains}
 use Rattle.plane.specs.Point.{Point}
 use Rattle.meshes.proofs.Boundaries.Counts.{all_count}
-use Rattle.meshes.proofs.Boundaries.CutTilings.{LiesInPart, beside_both, first_is_part, second_is_part, side_covered, some_after}
+use Rattle.meshes.proofs.Boundaries.CutTilings.{LiesInPart, beside_both, first_is_part, side_covered, some_after}
 use Rattle.meshes.proofs.Boundaries.CutTilings.{some_before}
 use Rattle.meshes.proofs.Boundaries.OneTriangle.{one_is_tree, third_corner, three_vertices}
 use Rattle.meshes.proofs.Boundaries.PartTilings.{IsEdgeBetween, IsPartTiling, IsSideOfOneIn, all_tile, edge_between_or_not, tiling_rotated}
-use Rattle.meshes.proofs.Boundaries.TiledParts.{part_tiled}
+use Rattle.meshes.proofs.Boundaries.SideCuts.{first_tiled, second_tiled}
 use Rattle.meshes.proofs.Boundaries.TwoParts.{IsTreeFor, tree_of_parts}
 use Rattle.meshes.proofs.Joins.{both_parts, contains_cases, edge_rotated, first_part, same_rotated, second_part}
-use Rattle.meshes.proofs.Parts.{IsShared, covered_swapped, shared_of, side_numbers}
+use Rattle.meshes.proofs.Parts.{IsShared, shared_of, side_numbers}
 use Rattle.meshes.proofs.Sides.{edge_of_step}
 use Rattle.meshes.proofs.Walks.{IsPlace, tree_of_paths}
 use Rattle.meshes.specs.Fits.{FitsPiece, IsPieceEdge, IsSideOfTwo}
@@ -47,18 +47,16 @@ module _ (corners : List Point) (tris : List Tri) where
       let (m, n, here, there, only) = beside_both corners v ps z qs tris P tiling k l s inner in
       let c = side_covered corners v ps z qs tris P tiling k l s inner in
       let is_first = first_is_part corners v ps z qs tris P tiling k l s inner in
-      let is_second = second_is_part corners v ps z qs tris P tiling k l s inner in
       let before = some_before corners v ps z qs tris P tiling k l s inner in
       let after = some_after corners v ps z qs tris P tiling k l s inner in
       let whole_long = length-append ps (z ∷ qs) in
       let first_long = length-append ps (z ∷ []) in
-      let first_tiled = part_tiled corners whole tris P tiling v z k l s inner first second c is_first m n here there only in
-      let second_tiled = part_tiled corners whole tris P tiling v z k l s inner second first (covered_swapped c) is_second n m there here
-      (λ o within has. elim (only o within has) [ inl e ↦ inr e | inr e ↦ inl e ]) in
       tree_of_parts corners whole tris P tiling v z k l s inner first second c is_first m n here there only (length first) (length second)
       (length whole) (omega (arith, whole_long, first_long))
-      (fewer first (LiesInPart corners tris P first) (omega (arith, whole_long, first_long, after)) first_tiled)
-      (fewer second (LiesInPart corners tris P second) (omega (arith, whole_long, before)) second_tiled)
+      (fewer first (LiesInPart corners tris P first) (omega (arith, whole_long, first_long, after))
+      (first_tiled corners v ps z qs tris P tiling k l s inner))
+      (fewer second (LiesInPart corners tris P second) (omega (arith, whole_long, before))
+      (second_tiled corners v ps z qs tris P tiling k l s inner))
 
   -- and between any two vertices
   cut_between : (piece : List ℕ) (P : ℕ → Type 0) (tiling : IsPartTiling corners piece tris P) (i j k l : ℕ) → IsSideOfTwo tris i j k l → P k → P l

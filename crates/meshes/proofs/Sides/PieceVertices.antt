@@ -1,14 +1,15 @@
--- The vertices of a piece: they are different where it is simple.
-use Rattle.std.proofs.Common.{◌≡◌, refl, sym, ap, ◌∙◌, ℕ, ◌<◌, List, length, get_or, arith}
+-- The vertices of a piece: they are different where it is simple. Its edges as edges of its points.
+use Rattle.std.proofs.Common.{◌≡◌, refl, sym, ap, subst, ◌∙◌, ℕ, ◌+◌, ◌%◌, ◌<◌, List, length, get_or, arith, mod-lt}
 use Rattle.std.proofs.lemmas.List.{get_or-map, length-map}
 use Rattle.std.proofs.lemmas.List.FromFn.{fill_by_all}
 use Rattle.std.specs.List.{range_with_len}
 use Rattle.plane.specs.Point.{Point}
-use Rattle.rings.proofs.Vertices.{vertex_in_range, one_to_one}
+use Rattle.rings.proofs.Vertices.{has_edge_at, one_to_one, vertex_in_range}
+use Rattle.rings.specs.Edge.{HasEdge, edge, edges_of}
 use Rattle.rings.specs.Ring.{origin, vertex}
 use Rattle.rings.specs.Simple.{IsSimple}
 use Rattle.rings.proofs.Simple.{apart_of_simple}
-use Rattle.meshes.specs.Fits.{piece_points}
+use Rattle.meshes.specs.Fits.{IsPieceEdge, piece_points}
 
 -- ---- simple pieces
 
@@ -39,3 +40,19 @@ module _ (corners : List Point) (piece : List ℕ) where
 pub piece_points_all : (corners : List Point) → piece_points corners (range_with_len 0 (length corners)) ≡ corners
 piece_points_all corners =
     sym (fill_by_all (λ k. vertex corners k) corners (length corners) origin refl (λ k h. sym (vertex_in_range corners k origin h)))
+
+-- ---- edges
+
+-- an edge of a piece is an edge of its points
+pub edge_of_piece : (corners : List Point) (piece : List ℕ) (i j : ℕ) → IsPieceEdge piece i j
+    → HasEdge (edges_of (piece_points corners piece)) (edge (vertex corners i) (vertex corners j))
+edge_of_piece corners piece i j e =
+    let ring = piece_points corners piece in
+    let p : ℕ = e.place in
+    let long = length_points corners piece in
+    let q : ℕ = (p + 1) % length piece in
+    let in_q : q < length piece = mod-lt (p + 1) (omega (arith, e.in_piece)) in
+    let from : vertex ring p ≡ vertex corners i = vertex_of_piece corners piece p e.in_piece ∙ ap (vertex corners) e.from in
+    let to : vertex ring (p + 1) ≡ vertex corners j =
+    ap (λ n. get_or ring ((p + 1) % n) origin) long ∙ get_or-map (λ k. vertex corners k) piece q 0 origin in_q ∙ ap (vertex corners) e.to in
+    subst (HasEdge (edges_of ring)) (λ k. edge (from k) (to k)) (has_edge_at ring p (omega (arith, e.in_piece, long)))
