@@ -4,22 +4,19 @@ use Rattle.std.proofs.lemmas.List.{append_assoc, drop_at, get_or_at, length-appe
 use Rattle.plane.specs.Point.{Point}
 use Rattle.rings.proofs.Vertices.{HasPoint, Farthest, has_right}
 use Rattle.rings.specs.Ring.{vertex}
-use Rattle.rings.specs.Simple.{IsSimple}
-use Rattle.rings.specs.Winding.{RunsCounterclockwise}
 use Rattle.ring_laws.proofs.Cuts.{IsCounterclockwiseCut}
 use Rattle.ring_laws.proofs.Simple.{InTriangle, height}
 use Rattle.meshes.proofs.Joins.{both_parts, contains_first_part, contains_second_part, first_part, second_part}
-use Rattle.meshes.proofs.Triangulations.{CutsPoints, SplitAt, both_fit, farthest_cut, first_is_piece, points_are, second_is_piece}
+use Rattle.meshes.proofs.Triangulations.{CutsPoints, SplitAt, both_fit, farthest_cut, first_is_piece, second_is_piece}
 use Rattle.meshes.specs.Fits.{piece_points}
 use Rattle.cut_tri.proofs.CornerPlaces.{height_is, in_corner_from, in_triangle_from, none_before, place_of_point}
-use Rattle.cut_tri.proofs.KeptTurns.{first_turns, second_turns}
 use Rattle.cut_tri.proofs.Members.{members_of_numbers, numbers_of_members}
 use Rattle.cut_tri.proofs.Readings.{read_from_first}
 use Rattle.cut_tri.proofs.Shapes.{by_split}
 use Rattle.cut_tri.specs.Cut.{IsCutInto, IsFarthest, height_at}
 use Rattle.cut_tri.specs.Cut.IsCutInto.{parts}
 use Rattle.cut_tri.specs.Cutting.{AreDiagonalPieces}
-use Rattle.cut_tri.specs.Piece.{IsLeastBelow, IsPiece, TurnsLeftAt}
+use Rattle.cut_tri.specs.Piece.{IsLeastBelow, IsPiece}
 
 -- ---- the farthest vertex, as a point
 
@@ -40,27 +37,27 @@ module _ (corners : List Point) (v w : ℕ) (ms : List ℕ) (u : ℕ) (i : ℕ) 
 
 module _ (corners : List Point) (v w : ℕ) (cs : List ℕ) (z : ℕ) (ds : List ℕ) (u : ℕ) where
   -- the vertices after the second but the last
-  abbrev others : List ℕ
+  abbrev pub others : List ℕ
   others = cs ++ z ∷ ds
 
   -- the piece, regrouped
-  regrouped : v ∷ w ∷ (others ++ u ∷ []) ≡ both_parts v (w ∷ cs) z (ds ++ u ∷ [])
+  pub regrouped : v ∷ w ∷ (others ++ u ∷ []) ≡ both_parts v (w ∷ cs) z (ds ++ u ∷ [])
   regrouped = ap (λ xs. v ∷ w ∷ xs) (append_assoc cs (z ∷ ds) (u ∷ []))
 
   -- z is one of them
   place_within : length cs < length others
   place_within = omega (arith, length-append cs (z ∷ ds))
 
-  z_is : get_or others (length cs) 0 ≡ z
+  pub z_is : get_or others (length cs) 0 ≡ z
   z_is = get_or_at cs z ds 0 (length cs) refl
 
   -- the places up to that of z, and those from there on
-  first_is : take (length cs + 2 + 1) (both_parts v (w ∷ cs) z (ds ++ u ∷ [])) ≡ first_part v (w ∷ cs) z
+  pub first_is : take (length cs + 2 + 1) (both_parts v (w ∷ cs) z (ds ++ u ∷ [])) ≡ first_part v (w ∷ cs) z
   first_is =
       ap (λ ys. take (length cs + 2 + 1) (v ∷ w ∷ ys)) (sym (append_assoc cs (z ∷ []) (ds ++ u ∷ [])))
       ∙ take_at (v ∷ w ∷ (cs ++ z ∷ [])) (ds ++ u ∷ []) (length cs + 2 + 1) (omega (arith, length-append cs (z ∷ [])))
 
-  second_is : drop (length cs + 2) (both_parts v (w ∷ cs) z (ds ++ u ∷ [])) ≡ z ∷ (ds ++ u ∷ [])
+  pub second_is : drop (length cs + 2) (both_parts v (w ∷ cs) z (ds ++ u ∷ [])) ≡ z ∷ (ds ++ u ∷ [])
   second_is = drop_at (v ∷ w ∷ cs) (z ∷ (ds ++ u ∷ [])) (length cs + 2) (omega arith)
 
   -- their points
@@ -90,33 +87,6 @@ module _ (corners : List Point) (v w : ℕ) (cs : List ℕ) (z : ℕ) (ds : List
         (vertex corners v ∷ vertex corners z ∷ (piece_points corners ds ++ vertex corners u ∷ [])) (vertex corners v) (vertex corners z)) regrouped
         (farthest_cut corners v w others u piece.polygon (none_before corners v w others u least) farthest_point at_z)
 
-    -- the points, in parts
-    points_simple : IsSimple (vertex corners v ∷ vertex corners w ∷ (piece_points corners others ++ vertex corners u ∷ []))
-    points_simple = subst IsSimple (points_are corners v w others u) piece.polygon.simple
-
-    points_run : RunsCounterclockwise (vertex corners v ∷ vertex corners w ∷ (piece_points corners others ++ vertex corners u ∷ []))
-    points_run = subst RunsCounterclockwise (points_are corners v w others u) piece.polygon.counterclockwise
-
-    points_keep : (q : Point) → TurnsLeftAt corners q
-        → TurnsLeftAt (vertex corners v ∷ vertex corners w ∷ (piece_points corners others ++ vertex corners u ∷ [])) q
-    points_keep q turns = subst (λ ps. TurnsLeftAt ps q) (points_are corners v w others u) (piece.keeps_left q turns)
-
-    -- the first part turns left where the ring does,
-    first_keeps : (q : Point) → TurnsLeftAt corners q → TurnsLeftAt (piece_points corners (first_part v (w ∷ cs) z)) q
-    first_keeps q turns =
-        let at = λ (i : ℕ). vertex corners i in
-        subst (λ ps. TurnsLeftAt (at v ∷ at w ∷ ps) q) (sym (map-append at cs (z ∷ [])))
-        (first_turns (at v) (at w) (piece_points corners others) (at u) points_simple points_run (none_before corners v w others u least) farthest_point
-        (piece_points corners cs) (piece_points corners ds) others_points q (points_keep q turns))
-
-    -- and the second does
-    second_keeps : (q : Point) → TurnsLeftAt corners q → TurnsLeftAt (piece_points corners (second_part v z (ds ++ u ∷ []))) q
-    second_keeps q turns =
-        let at = λ (i : ℕ). vertex corners i in
-        subst (λ ps. TurnsLeftAt (at v ∷ at z ∷ ps) q) (sym (map-append at ds (u ∷ [])))
-        (second_turns (at v) (at w) (piece_points corners others) (at u) points_simple points_run (none_before corners v w others u least) farthest_point
-        (piece_points corners cs) (piece_points corners ds) others_points q (points_keep q turns))
-
     -- and the piece in two pieces
     are_parts : AreDiagonalPieces corners (both_parts v (w ∷ cs) z (ds ++ u ∷ [])) (first_part v (w ∷ cs) z) (second_part v z (ds ++ u ∷ []))
     are_parts =
@@ -127,12 +97,10 @@ module _ (corners : List Point) (v w : ℕ) (cs : List ℕ) (z : ℕ) (ds : List
           first_is_piece = record {
             polygon = first_is_piece corners v w cs z ds u polygon points_cut;
             numbers = numbers_of_members (length corners) (first_part v (w ∷ cs) z) (λ i h. numbers i (contains_first_part v (w ∷ cs) z (ds ++ u ∷ []) i h));
-            keeps_left = first_keeps;
           };
           second_is_piece = record {
             polygon = second_is_piece corners v w cs z ds u polygon points_cut;
             numbers = numbers_of_members (length corners) (second_part v z (ds ++ u ∷ [])) (λ i h. numbers i (contains_second_part v (w ∷ cs) z (ds ++ u ∷ []) i h));
-            keeps_left = second_keeps;
           };
           lengths = omega (arith, length-append cs (z ∷ []), length-append cs (z ∷ (ds ++ u ∷ [])));
           fits = both_fit corners v w cs z ds u polygon points_cut;

@@ -1,22 +1,18 @@
 -- A piece at whose first vertex the triangle is empty: the triangle is an ear.
 use Rattle.std.proofs.Common.{◌≡◌, sym, subst, ℕ, ◌<◌, List, [], ◌∷◌, ◌++◌, length, drop, arith}
-use Rattle.std.proofs.lemmas.List.{length-append, length-map, map-append}
+use Rattle.std.proofs.lemmas.List.{length-append}
 use Rattle.plane.specs.Point.{Point}
-use Rattle.rings.specs.Ring.{vertex}
-use Rattle.rings.specs.Simple.{IsSimple}
-use Rattle.rings.specs.Winding.{RunsCounterclockwise}
 use Rattle.meshes.proofs.Joins.{contains_rest}
-use Rattle.meshes.proofs.Triangulations.{ear_fits, points_are, rest_is_piece, triangle_fits}
-use Rattle.meshes.specs.Fits.{FitsPiece, piece_points}
+use Rattle.meshes.proofs.Triangulations.{ear_fits, rest_is_piece, triangle_fits}
+use Rattle.meshes.specs.Fits.{FitsPiece}
 use Rattle.cut_tri.proofs.CornerPlaces.{none_before, none_in_triangle}
-use Rattle.cut_tri.proofs.KeptTurns.{rest_turns}
 use Rattle.cut_tri.proofs.Members.{members_of_numbers, numbers_of_members}
 use Rattle.cut_tri.proofs.Shapes.{by_ends, ends_length, first_tri_is}
 use Rattle.cut_tri.proofs.Readings.{read_from_first}
 use Rattle.cut_tri.specs.Cut.{IsPlaceInCorner}
 use Rattle.cut_tri.specs.Cut.IsCutInto.{ear, triangle}
 use Rattle.cut_tri.specs.Cutting.{IsEarCut, IsTriangle}
-use Rattle.cut_tri.specs.Piece.{IsLeastBelow, IsPiece, TurnsLeftAt, tri_at_first}
+use Rattle.cut_tri.specs.Piece.{IsLeastBelow, IsPiece, tri_at_first}
 
 -- ---- a piece of three vertices
 
@@ -44,18 +40,7 @@ module _ (corners : List Point) where
 module _ (corners : List Point) (v w : ℕ) (ms : List ℕ) (u : ℕ) (piece : IsPiece corners (v ∷ w ∷ (ms ++ u ∷ [])))
     (least : IsLeastBelow corners (v ∷ w ∷ (ms ++ u ∷ [])) (length (v ∷ w ∷ (ms ++ u ∷ []))) 0) (some : 0 < length ms)
     (none : (j : ℕ) → j < length (v ∷ w ∷ (ms ++ u ∷ [])) → ¬ (IsPlaceInCorner corners (v ∷ w ∷ (ms ++ u ∷ [])) j)) where
-  -- the rest turns left where the ring does,
-  rest_keeps : (q : Point) → TurnsLeftAt corners q → TurnsLeftAt (piece_points corners (w ∷ (ms ++ u ∷ []))) q
-  rest_keeps q turns =
-      let at = λ (i : ℕ). vertex corners i in
-      let points = points_are corners v w ms u in
-      subst (λ ps. TurnsLeftAt (at w ∷ ps) q) (sym (map-append at ms (u ∷ [])))
-      (rest_turns (at v) (at w) (piece_points corners ms) (at u) (omega (arith, some, length-map ms at))
-      (subst IsSimple points piece.polygon.simple) (subst RunsCounterclockwise points piece.polygon.counterclockwise)
-      (none_before corners v w ms u least) (none_in_triangle corners v w ms u none)
-      q (subst (λ ps. TurnsLeftAt ps q) points (piece.keeps_left q turns)))
-
-  -- and the triangle is an ear
+  -- the triangle is one
   is_ear : IsEarCut corners (v ∷ w ∷ (ms ++ u ∷ [])) (tri_at_first (v ∷ w ∷ (ms ++ u ∷ []))) (w ∷ (ms ++ u ∷ []))
   is_ear =
       let least_point = none_before corners v w ms u least in
@@ -65,7 +50,6 @@ module _ (corners : List Point) (v w : ℕ) (ms : List ℕ) (u : ℕ) (piece : I
           polygon = rest_is_piece corners v w ms u piece.polygon least_point some none_in;
           numbers = numbers_of_members (length corners) (w ∷ (ms ++ u ∷ []))
               (λ i h. members_of_numbers (length corners) (v ∷ w ∷ (ms ++ u ∷ [])) piece.numbers i (contains_rest v (w ∷ (ms ++ u ∷ [])) i h));
-          keeps_left = rest_keeps;
         };
         shorter = omega arith;
         fits = λ ts fit.

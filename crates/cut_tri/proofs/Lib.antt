@@ -1,30 +1,16 @@
 mod AllowedSteps
-mod BestFrom
-mod Candidates
-mod ClusterPlaces
+pub mod Candidates
 mod Completion
 mod CornerPlaces
-mod DiagonalCuts
+pub mod DiagonalCuts
 mod DistinctCorners
-mod EarCuts
-mod Ends
-mod FarthestTurns
-mod Heights
-mod KeptTurns
-mod Looks
+pub mod EarCuts
+mod LeastTurns
 mod Members
 pub mod OneCut
 mod OneReading
-mod Orders
-mod PartPlaces
-mod Parts
-mod Readings
-mod RotatedCuts
-mod SeenVertices
-mod Shapes
-mod Thinned
-mod ToldCorners
-mod TriangleBoxes
-mod TurnsBesideDiagonals
-mod WholePiece
+pub mod Readings
+pub mod RotatedCuts
+pub mod Shapes
+pub mod WholePiece
 mod WorkList

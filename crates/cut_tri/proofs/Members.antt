@@ -1,15 +1,10 @@
 -- Numbers in a list and at its places, and pieces read from another vertex on.
-use Rattle.std.proofs.Common.{sym, subst, ℕ, ◌<◌, List, ◌++◌, length, get_or}
-use Rattle.std.proofs.lemmas.List.{map-append}
+use Rattle.std.proofs.Common.{subst, ℕ, ◌<◌, List, ◌++◌, length, get_or}
 use Rattle.std.proofs.lemmas.List.Elements.{Contains-get_or}
 use Rattle.std.specs.List.{Contains}
 use Rattle.plane.specs.Point.{Point}
-use Rattle.rings.proofs.Inside.{has_edge_rotated}
-use Rattle.rings.specs.Edge.{Edge, HasEdge, edge, edges_of}
-use Rattle.rings.specs.Ring.{vertex}
 use Rattle.meshes.proofs.Joins.{place_of, same_rotated}
 use Rattle.meshes.proofs.Triangulations.{piece_rotated}
-use Rattle.meshes.specs.Fits.{piece_points}
 use Rattle.cut_tri.specs.Piece.{IsPiece}
 
 module _ (n : ℕ) (xs : List ℕ) where
@@ -26,18 +21,10 @@ module _ (corners : List Point) (xs ys : List ℕ) (is : IsPiece corners (xs ++ 
   pub members_back : (i : ℕ) → Contains (ys ++ xs) i → Contains (xs ++ ys) i
   members_back = (same_rotated corners ys xs (same_rotated corners xs ys is.polygon.simple).simple).members
 
-  -- and so are its edges
-  edge_back : (e : Edge) → HasEdge (edges_of (piece_points corners (ys ++ xs))) e → HasEdge (edges_of (piece_points corners (xs ++ ys))) e
-  edge_back e has =
-      let at = λ (i : ℕ). vertex corners i in
-      subst (λ ps. HasEdge (edges_of ps) e) (sym (map-append at xs ys))
-      (has_edge_rotated (piece_points corners ys) (piece_points corners xs) e (subst (λ ps. HasEdge (edges_of ps) e) (map-append at ys xs) has))
-
-  -- so that is a piece too
+  -- that is a piece too
   pub is_piece_rotated : IsPiece corners (ys ++ xs)
   is_piece_rotated = record {
     polygon = piece_rotated corners xs ys is.polygon;
     numbers = numbers_of_members (length corners) (ys ++ xs)
         (λ i h. members_of_numbers (length corners) (xs ++ ys) is.numbers i (members_back i h));
-    keeps_left = λ v turns u w first second. is.keeps_left v turns u w (edge_back (edge u v) first) (edge_back (edge v w) second);
   }

@@ -1,14 +1,18 @@
 -- What is left of a piece read from another vertex on is left of the piece.
-use Rattle.std.proofs.Common.{◌≡◌, sym, ap, subst, ◌∙◌, ℕ, List, ◌++◌, length, get_or, take, drop, arith}
-use Rattle.std.proofs.lemmas.List.{length-append, length-drop, take-append-drop}
+use Rattle.std.proofs.Common.{sym, subst, ℕ, ◌<◌, List, ◌++◌, length, get_or, take, drop, Result, Ok, Err, arith}
+use Rattle.std.proofs.lemmas.List.{length-append, take-append-drop}
+use Rattle.std.proofs.lemmas.List.Elements.{Contains-get_or}
+use Rattle.std.specs.List.{Contains}
+use Rattle.std.specs.Prelude.{IfOk}
+use Rattle.plane.specs.Order.{IsBefore}
 use Rattle.plane.specs.Point.{Point}
-use Rattle.meshes.proofs.Joins.{fits_rotated}
-use Rattle.cut_tri.proofs.Members.{is_piece_rotated}
-use Rattle.cut_tri.proofs.Orders.{order_turned}
+use Rattle.rings.specs.Ring.{vertex}
+use Rattle.meshes.proofs.Joins.{place_of, fits_rotated}
+use Rattle.exact_plane.specs.declared.memory.Memory.{Memory}
+use Rattle.cut_tri.proofs.Members.{members_back, is_piece_rotated}
 use Rattle.cut_tri.proofs.Readings.{cut_of_rotated, first_turned}
 use Rattle.cut_tri.specs.Cutting.{IsCutOf}
-use Rattle.cut_tri.specs.Ordered.{IsLeastPlace, IsOrderOf}
-use Rattle.cut_tri.specs.Piece.{IsPiece}
+use Rattle.cut_tri.specs.Piece.{IsLeastBelow, IsPiece, piece_vertex}
 use Rattle.cut_tri.specs.declared.cut.Remains.{Remains}
 use Rattle.cut_tri.specs.declared.cut.Remains.TheVariants.{Ear, Parts, Triangle}
 
@@ -30,9 +34,10 @@ module _ (corners : List Point) (xs ys : List ℕ) where
     cut = λ ts us is_cut is_cut_too. cut_of_rotated corners xs ys _ (are.cut ts us is_cut is_cut_too);
   }
 
--- it is as long
-pub as_long : (xs : List ℕ) (k : ℕ) → length (drop k xs ++ take k xs) ≡ length xs
-as_long xs k = omega (arith, length-append (drop k xs) (take k xs), length-append (take k xs) (drop k xs), ap length (take-append-drop k xs))
+  -- if there is memory
+  result_rotated : (r : Result Remains Memory) → IfOk r (IsCutOf corners (ys ++ xs)) → IfOk r (IsCutOf corners (xs ++ ys))
+  result_rotated (Ok remains) h = cut_rotated remains h
+  result_rotated (Err e) h = h
 
 module _ (corners : List Point) (xs : List ℕ) (k : ℕ) (is : IsPiece corners xs) where
   -- a piece in two parts
@@ -44,22 +49,16 @@ module _ (corners : List Point) (xs : List ℕ) (k : ℕ) (is : IsPiece corners 
   piece_from = is_piece_rotated corners (take k xs) (drop k xs) two_parts
 
   -- what is left of that is left of the piece
-  pub cut_from : (left : Remains) → IsCutOf corners (drop k xs ++ take k xs) left → IsCutOf corners xs left
-  cut_from left is = subst (λ ys. IsCutOf corners ys left) (take-append-drop k xs) (cut_rotated corners (take k xs) (drop k xs) left is)
+  pub result_from : (r : Result Remains Memory) → IfOk r (IsCutOf corners (drop k xs ++ take k xs)) → IfOk r (IsCutOf corners xs)
+  result_from r h =
+      subst (λ ys. IfOk r (IsCutOf corners ys)) (take-append-drop k xs) (result_rotated corners (take k xs) (drop k xs) r h)
 
-  module _ (ys os : List ℕ) (turned : ys ≡ drop k xs ++ take k xs) (order : IsOrderOf corners xs os) (least : IsLeastPlace xs os k) where
-    -- with the same order,
-    pub order_from : IsPiece corners ys × IsOrderOf corners ys os
-    order_from = (
-      subst (IsPiece corners) (sym turned) piece_from,
-      subst (λ zs. IsOrderOf corners zs os) (sym turned) (order_turned corners xs os k order),
-    )
-
-    -- and begins with its least vertex, where place k is that of the least
-    pub least_from : IsLeastPlace ys os 0
-    least_from =
-        let size = ap length turned in
-        record {
-          within = omega (arith, least.within, size, length-append (drop k xs) (take k xs), length-drop k xs);
-          is = ap (λ zs. get_or zs 0 0) turned ∙ first_turned xs k least.within ∙ least.is;
-        }
+  module _ (within : k < length xs) where
+    -- a least vertex comes first
+    pub least_from : IsLeastBelow corners xs (length xs) k → IsLeastBelow corners (drop k xs ++ take k xs) (length (drop k xs ++ take k xs)) 0
+    least_from least j h before =
+        let has = members_back corners (take k xs) (drop k xs) two_parts (get_or (drop k xs ++ take k xs) j 0) (Contains-get_or (drop k xs ++ take k xs) j 0 h) in
+        let (i, below, same) = place_of xs _ (subst (λ ys. Contains ys (get_or (drop k xs ++ take k xs) j 0)) (take-append-drop k xs) has) in
+        least i below
+        (subst (λ n. IsBefore (vertex corners n) (piece_vertex corners xs k)) (sym same)
+        (subst (λ n. IsBefore (piece_vertex corners (drop k xs ++ take k xs) j) (vertex corners n)) (first_turned xs k within) before))

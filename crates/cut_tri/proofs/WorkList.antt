@@ -1,28 +1,25 @@
--- The pieces that are still to be cut: how they complete a mesh, and how much is still to be done and what it takes, after one cut more.
-use Rattle.std.proofs.Common.{◌≡◌, sym, ap, subst, ◌∙◌, ℕ, ◌+◌, ◌-◌, ◌*◌, ◌<◌, ◌≤◌, List, [], ◌∷◌, ◌++◌, length, map, reverse, Some, arith}
+-- The pieces that are still to be cut: how they complete a mesh, and how much is still to be done, after one cut more.
+use Rattle.std.proofs.Common.{◌≡◌, sym, ap, subst, ◌∙◌, ℕ, ◌+◌, ◌-◌, ◌*◌, ◌<◌, ◌≤◌, List, [], ◌∷◌, ◌++◌, length, map, reverse, Vec, Global, arith}
 use Rattle.std.proofs.lemmas.List.{append_assoc, map-append, reverse-append}
-use Rattle.std.proofs.lemmas.List.Elements.{All-pop, All-push}
 use Rattle.std.proofs.lemmas.List.FromFn.{length-range_with_len}
 use Rattle.std.specs.List.{range_with_len}
 use Rattle.plane.specs.Point.{Point}
 use Rattle.meshes.specs.Fits.{Fits}
 use Rattle.meshes.specs.declared.tri.Tri.{Tri}
-use Rattle.cut_tri.proofs.AllowedSteps.{allowed, allowed_for, parts_allowed, within_allowed}
+use Rattle.cut_tri.proofs.AllowedSteps.{allowed, allowed_for, ear_allowed, parts_allowed, size_allowed, triangle_allowed}
 use Rattle.cut_tri.proofs.Completion.{ArePieces, Completes, effort}
 use Rattle.cut_tri.specs.Cut.{IsCutTriangulation}
 use Rattle.cut_tri.specs.Cutting.{AreDiagonalPieces, IsCutOf, IsEarCut, IsTriangle}
-use Rattle.cut_tri.specs.Ordered.{IsOrderOf}
 use Rattle.cut_tri.specs.Piece.{IsPiece}
-use Rattle.cut_tri.specs.WorkList.{HaveOrders, IsTakenOver, last_first}
+use Rattle.cut_tri.specs.WorkList.{IsTakenOver, last_first}
 use Rattle.cut_tri.specs.declared.cut.Remains.{Remains}
 use Rattle.cut_tri.specs.declared.cut.Remains.TheVariants.{Triangle, Ear, Parts}
-use Rattle.cut_tri.specs.declared.piece.Piece.{Piece}
 
 -- the last piece of a work list is the first that is still to be cut
-pub last_first-push : (work : List Piece) (piece : Piece) → last_first (work ++ piece ∷ []) ≡ piece.boundary ∷ last_first work
+pub last_first-push : (work : List (Vec ℕ Global)) (piece : Vec ℕ Global) → last_first (work ++ piece ∷ []) ≡ piece.items ∷ last_first work
 last_first-push work piece =
-    ap reverse (map-append (λ (p : Piece). p.boundary) work (piece ∷ []))
-    ∙ reverse-append (map (λ (p : Piece). p.boundary) work) (piece.boundary ∷ [])
+    ap reverse (map-append (λ (v : Vec ℕ Global). v.items) work (piece ∷ []))
+    ∙ reverse-append (map (λ (v : Vec ℕ Global). v.items) work) (piece.items ∷ [])
 
 -- triangles and pieces that complete a mesh of the ring, with less effort than before
 pub record IsNearer (corners : List Point) (before : ℕ) (done : List Tri) (pieces : List (List ℕ)) : Type 0 where
@@ -67,36 +64,40 @@ module _ (corners : List Point) (piece : List ℕ) (pieces : List (List ℕ)) (d
       (subst (IsNearer corners (effort (piece ∷ pieces)) (done ++ tri ∷ [])) (sym taken.1) (with_triangle tri is))
   nearer (Ear tri rest) done_after pieces_after is taken =
       subst (λ ts. IsNearer corners (effort (piece ∷ pieces)) ts pieces_after) (sym taken.0)
-      (subst (IsNearer corners (effort (piece ∷ pieces)) (done ++ tri ∷ [])) (sym taken.1) (with_ear tri rest.boundary is))
+      (subst (IsNearer corners (effort (piece ∷ pieces)) (done ++ tri ∷ [])) (sym taken.1) (with_ear tri rest.items is))
   nearer (Parts first second) done_after pieces_after is taken =
       subst (λ ts. IsNearer corners (effort (piece ∷ pieces)) ts pieces_after) (sym taken.0)
-      (subst (IsNearer corners (effort (piece ∷ pieces)) done) (sym taken.1) (with_parts first.boundary second.boundary is))
+      (subst (IsNearer corners (effort (piece ∷ pieces)) done) (sym taken.1) (with_parts first.items second.items is))
 
--- what is left of a piece is allowed no more than one with a vertex less
-less_allowed : (corners : List Point) (each : ℕ) (piece : List ℕ) (pieces : List (List ℕ)) (done : List Tri) (remains : Remains) (done_after : List Tri)
-    (pieces_after : List (List ℕ)) → IsCutOf corners piece remains → IsTakenOver remains done pieces done_after pieces_after
-    → allowed each pieces_after ≤ allowed_for each (length piece - 4) + allowed each pieces
-less_allowed corners each piece pieces done (Triangle tri) done_after pieces_after is taken =
-    subst (λ ps. allowed each ps ≤ allowed_for each (length piece - 4) + allowed each pieces) (sym taken.1) (omega arith)
-less_allowed corners each piece pieces done (Ear tri rest) done_after pieces_after is taken =
-    let size : length rest.boundary - 3 ≡ length piece - 4 = omega (arith, is.shorter) in
-    let same = ap (allowed_for each) size in
-    subst (λ ps. allowed each ps ≤ allowed_for each (length piece - 4) + allowed each pieces) (sym taken.1) (omega (arith, same))
-less_allowed corners each piece pieces done (Parts first second) done_after pieces_after is taken =
-    let some = is.first_is_piece.polygon.some in
-    let more = is.second_is_piece.polygon.some in
-    let m : ℕ = length first.boundary - 3 in
-    let n : ℕ = length second.boundary - 3 in
-    let size : m + n ≡ length piece - 4 = omega (arith, is.lengths, some, more) in
-    let same = ap (allowed_for each) size in
-    subst (λ ps. allowed each ps ≤ allowed_for each (length piece - 4) + allowed each pieces) (sym taken.1) (omega (arith, same, parts_allowed each m n))
+-- a cut is allowed, with what is left of the piece
+cut_allowed : (corners : List Point) (piece : List ℕ) (pieces : List (List ℕ)) (done : List Tri) (remains : Remains) (done_after : List Tri)
+    (pieces_after : List (List ℕ)) → 3 ≤ length piece → IsCutOf corners piece remains → IsTakenOver remains done pieces done_after pieces_after
+    → 260 * length piece + allowed pieces_after ≤ allowed (piece ∷ pieces) + 777
+cut_allowed corners piece pieces done (Triangle tri) done_after pieces_after some is taken =
+    let three : length piece ≡ 3 = sym is.fits.count in
+    let none = ap (λ n. allowed_for (n - 3)) three in
+    subst (λ ps. 260 * length piece + allowed ps ≤ allowed (piece ∷ pieces) + 777) (sym taken.1) (omega (arith, three, none, triangle_allowed))
+cut_allowed corners piece pieces done (Ear tri rest) done_after pieces_after some is taken =
+    let more = is.rest_is_piece.polygon.some in
+    let m : ℕ = length rest.items - 3 in
+    let size : length piece - 3 ≡ m + 1 = omega (arith, is.shorter, more) in
+    subst (λ ps. 260 * length piece + allowed ps ≤ allowed (piece ∷ pieces) + 777) (sym taken.1)
+    (omega (arith, is.shorter, more, ear_allowed m, ap allowed_for size))
+cut_allowed corners piece pieces done (Parts first second) done_after pieces_after some is taken =
+    let more = is.first_is_piece.polygon.some in
+    let also = is.second_is_piece.polygon.some in
+    let m : ℕ = length first.items - 3 in
+    let n : ℕ = length second.items - 3 in
+    let size : length piece - 3 ≡ m + n + 1 = omega (arith, is.lengths, more, also) in
+    subst (λ ps. 260 * length piece + allowed ps ≤ allowed (piece ∷ pieces) + 777) (sym taken.1)
+    (omega (arith, is.lengths, more, also, parts_allowed m n, ap allowed_for size))
 
 -- ---- the work list
 
 module _ (corners : List Point) where
   -- at the start it has the piece of all vertices
-  pub at_start : (none work : List Piece) (piece : Piece) (done : List Tri) → none ≡ [] → work ≡ none ++ piece ∷ []
-      → piece.boundary ≡ range_with_len 0 (length corners)
+  pub at_start : (none work : List (Vec ℕ Global)) (piece : Vec ℕ Global) (done : List Tri) → none ≡ [] → work ≡ none ++ piece ∷ []
+      → piece.items ≡ range_with_len 0 (length corners)
       → done ≡ [] → IsPiece corners (range_with_len 0 (length corners)) → ArePieces corners (last_first work) × Completes corners done (last_first work)
   at_start none work piece done none_is work_is piece_is done_is is_piece =
       subst (λ ws. ArePieces corners (last_first ws) × Completes corners done (last_first ws)) (sym (work_is ∙ ap (λ ws. ws ++ piece ∷ []) none_is))
@@ -105,65 +106,51 @@ module _ (corners : List Point) where
       ((is_piece, tt), λ ts fit cut. (fit, cut))))
 
   -- and so much is allowed for it
-  pub allowed_at_start : (none work : List Piece) (piece : Piece) → none ≡ [] → work ≡ none ++ piece ∷ []
-      → piece.boundary ≡ range_with_len 0 (length corners) → (each : ℕ) → allowed each (last_first work) ≡ allowed_for each (length corners - 3)
-  allowed_at_start none work piece none_is work_is piece_is each =
-      let one : last_first work ≡ piece.boundary ∷ [] = ap last_first (work_is ∙ ap (λ ws. ws ++ piece ∷ []) none_is) in
-      let size : length piece.boundary ≡ length corners = ap length piece_is ∙ length-range_with_len 0 (length corners) in
-      let same = ap (λ n. allowed_for each (n - 3)) size in
-      let alone : allowed each (piece.boundary ∷ []) ≡ allowed_for each (length corners - 3) = omega (arith, same) in
-      ap (allowed each) one ∙ alone
+  pub allowed_at_start : (none work : List (Vec ℕ Global)) (piece : Vec ℕ Global) → none ≡ [] → work ≡ none ++ piece ∷ []
+      → piece.items ≡ range_with_len 0 (length corners) → allowed (last_first work) ≡ allowed_for (length corners - 3)
+  allowed_at_start none work piece none_is work_is piece_is =
+      let one : last_first work ≡ piece.items ∷ [] = ap last_first (work_is ∙ ap (λ ws. ws ++ piece ∷ []) none_is) in
+      let size : length piece.items ≡ length corners = ap length piece_is ∙ length-range_with_len 0 (length corners) in
+      let same = ap (λ n. allowed_for (n - 3)) size in
+      let alone : allowed (piece.items ∷ []) ≡ allowed_for (length corners - 3) = omega (arith, same) in
+      ap allowed one ∙ alone
 
-  module _ (work rest : List Piece) (piece : Piece) (done : List Tri) (is : work ≡ rest ++ piece ∷ [])
+  module _ (work rest : List (Vec ℕ Global)) (piece : Vec ℕ Global) (done : List Tri) (is : work ≡ rest ++ piece ∷ [])
       (so_far : ArePieces corners (last_first work) × Completes corners done (last_first work)) where
     -- the pieces are the last one and the others
-    pieces_are : last_first work ≡ piece.boundary ∷ last_first rest
+    pieces_are : last_first work ≡ piece.items ∷ last_first rest
     pieces_are = ap last_first is ∙ last_first-push rest piece
 
     -- the last one is a piece
-    pub last_is_piece : IsPiece corners piece.boundary
+    last_is_piece : IsPiece corners piece.items
     last_is_piece = (subst (ArePieces corners) pieces_are so_far.0).0
 
     -- to cut it comes nearer
-    pub one_step : (remains : Remains) (done_after : List Tri) (pieces_after : List (List ℕ)) → IsCutOf corners piece.boundary remains
+    pub one_step : (remains : Remains) (done_after : List Tri) (pieces_after : List (List ℕ)) → IsCutOf corners piece.items remains
         → IsTakenOver remains done (last_first rest) done_after pieces_after → IsNearer corners (effort (last_first work)) done_after pieces_after
     one_step remains done_after pieces_after is_cut taken =
         subst (λ n. IsNearer corners n done_after pieces_after) (sym (ap effort pieces_are))
-        (nearer corners piece.boundary (last_first rest) done last_is_piece (subst (ArePieces corners) pieces_are so_far.0).1
+        (nearer corners piece.items (last_first rest) done last_is_piece (subst (ArePieces corners) pieces_are so_far.0).1
         (subst (Completes corners done) pieces_are so_far.1) remains done_after pieces_after is_cut taken)
 
-    module _ (each other before after : ℕ) (each_is : each ≡ 2 * other + 1030) (none : length piece.boundary ≡ 3 → after ≡ before)
-        (most : after ≤ before + (515 * length piece.boundary + other)) where
-      -- and keeps within what is allowed,
-      pub allowed_before : (remains : Remains) (done_after : List Tri) (pieces_after : List (List ℕ)) → IsCutOf corners piece.boundary remains
-          → IsTakenOver remains done (last_first rest) done_after pieces_after → 2 * after + allowed each pieces_after ≤ 2 * before + allowed each (last_first work)
+    -- and keeps within what is allowed,
+    module _ (before after : ℕ) (most : after + 777 ≤ before + 260 * length piece.items) where
+      pub allowed_before : (remains : Remains) (done_after : List Tri) (pieces_after : List (List ℕ)) → IsCutOf corners piece.items remains
+          → IsTakenOver remains done (last_first rest) done_after pieces_after → after + allowed pieces_after ≤ before + allowed (last_first work)
       allowed_before remains done_after pieces_after is_cut taken =
-          subst (λ ps. 2 * after + allowed each pieces_after ≤ 2 * before + allowed each ps) (sym pieces_are)
-          (within_allowed (length piece.boundary) each other before after (allowed each (last_first rest)) (allowed each pieces_after)
-          last_is_piece.polygon.some each_is none most
-          (less_allowed corners each piece.boundary (last_first rest) done remains done_after pieces_after is_cut taken))
+          subst (λ ps. after + allowed pieces_after ≤ before + allowed ps) (sym pieces_are)
+          (omega (
+            arith,
+            most,
+            cut_allowed corners piece.items (last_first rest) done remains done_after pieces_after last_is_piece.polygon.some is_cut taken,
+          ))
 
       -- also where memory is wanting
-      pub allowed_once : 2 * after ≤ 2 * before + allowed each (last_first work)
-      allowed_once =
-          subst (λ ps. 2 * after ≤ 2 * before + allowed each ps) (sym pieces_are)
-          (let within = within_allowed (length piece.boundary) each other before after (allowed each (last_first rest)) 0
-          last_is_piece.polygon.some each_is none most (omega arith) in omega (arith, within))
+      pub allowed_once : after ≤ before + allowed (last_first work)
+      allowed_once = subst (λ ps. after ≤ before + allowed ps) (sym pieces_are) (omega (arith, most, size_allowed (length piece.items)))
 
   -- in the end the triangles fit, as many as there are vertices but two, and are those into which the ring is cut
-  pub at_end : (work : List Piece) (done : List Tri) → length work ≡ 0 → Completes corners done (last_first work)
+  pub at_end : (work : List (Vec ℕ Global)) (done : List Tri) → length work ≡ 0 → Completes corners done (last_first work)
       → Fits corners done × (length done + 2 ≡ length corners) × IsCutTriangulation corners done
   at_end [] done none (fits, cut) = (fits, fits.count ∙ length-range_with_len 0 (length corners), cut)
   at_end (v ∷ work) done none completes = absurd (omega arith)
-
--- ---- orders
-
-module _ (corners : List Point) (work rest : List Piece) (piece : Piece) (is : work ≡ rest ++ piece ∷ []) where
-  -- a piece more
-  pub orders_pushed : HaveOrders corners rest → IsOrderOf corners piece.boundary piece.order.items → HaveOrders corners work
-  orders_pushed orders order =
-      subst (HaveOrders corners) (sym is) (All-push (λ (p : Piece). IsOrderOf corners p.boundary p.order.items) rest piece orders order)
-
-  -- and the last one taken off
-  pub orders_popped : HaveOrders corners work → HaveOrders corners rest × IsOrderOf corners piece.boundary piece.order.items
-  orders_popped = All-pop (λ (p : Piece). IsOrderOf corners p.boundary p.order.items) work rest (Some piece) is

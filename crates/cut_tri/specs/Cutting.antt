@@ -32,5 +32,5 @@ pub record AreDiagonalPieces (corners : List Point) (piece first second : List �
 -- what is left of the piece
 abbrev pub IsCutOf : List Point → List ℕ → Remains → Type 0
 IsCutOf corners piece (Triangle tri) = IsTriangle corners piece tri
-IsCutOf corners piece (Ear tri rest) = IsEarCut corners piece tri rest.boundary
-IsCutOf corners piece (Parts first second) = AreDiagonalPieces corners piece first.boundary second.boundary
+IsCutOf corners piece (Ear tri rest) = IsEarCut corners piece tri rest.items
+IsCutOf corners piece (Parts first second) = AreDiagonalPieces corners piece first.items second.items

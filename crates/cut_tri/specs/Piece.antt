@@ -1,11 +1,8 @@
 -- Pieces of a polygon: simple polygons with some of its vertices.
 use Rattle.std.specs.Prelude.{ℕ, ◌-◌, ◌<◌, List, length, slice_index_or}
 use Rattle.plane.specs.Order.{IsBefore}
-use Rattle.plane.specs.Point.{Point, whole}
-use Rattle.plane.specs.Turn.{IsLeft}
-use Rattle.rings.specs.Edge.{HasEdge, edge, edges_of}
+use Rattle.plane.specs.Point.{Point}
 use Rattle.rings.specs.Ring.{vertex}
-use Rattle.meshes.specs.Fits.{piece_points}
 use Rattle.meshes.specs.Piece.{IsPolygonPiece}
 use Rattle.meshes.specs.declared.tri.Tri.{Tri}
 
@@ -13,16 +10,10 @@ use Rattle.meshes.specs.declared.tri.Tri.{Tri}
 abbrev pub HasNumbers : List Point → List ℕ → Type 0
 HasNumbers corners piece = (k : ℕ) → k < length piece → slice_index_or piece k 0 < length corners
 
--- the ring turns left at v, where that is a vertex of it: a convex vertex, if the ring runs counterclockwise
-abbrev pub TurnsLeftAt : List Point → Point → Type 0
-TurnsLeftAt ring v =
-    (u w : Point) → HasEdge (edges_of ring) (edge u v) → HasEdge (edges_of ring) (edge v w) → IsLeft (whole u) (whole v) (whole w)
-
--- at least three of the vertices: a simple ring that runs counterclockwise, and turns left where the ring of all vertices does
+-- at least three of the vertices: a simple ring that runs counterclockwise
 pub record IsPiece (corners : List Point) (piece : List ℕ) : Type 0 where
   pub polygon : IsPolygonPiece corners piece
   pub numbers : HasNumbers corners piece
-  pub keeps_left : (v : Point) → TurnsLeftAt corners v → TurnsLeftAt (piece_points corners piece) v
 
 -- the vertex at place k
 abbrev pub piece_vertex : List Point → List ℕ → ℕ → Point

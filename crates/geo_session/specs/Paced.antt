@@ -29,9 +29,9 @@ mesh_steps n = 192 * n + 200 * n * binary_digits n
 abbrev pub polygon_steps : ℕ → ℕ
 polygon_steps n = 214 * (n * n) + 1400 * (n * (binary_digits n + 4)) + mesh_steps n
 
--- to find the guards, each of whose triangles is looked for among the vertices,
+-- to find the guards, for which diagonals are flipped,
 abbrev pub guards_steps : ℕ → ℕ
-guards_steps n = 629 * (n * n) + 119 * n
+guards_steps n = 24 * (n * n)
 
 -- to place a point,
 abbrev pub inside_steps : ℕ → ℕ

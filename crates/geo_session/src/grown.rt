@@ -61,6 +61,11 @@ impl Grown {
         })
     }
 
+    // Drops it along the triangles of the mesh.
+    pub(crate) fn drop_along(self, mesh: &Mesh) {
+        self.tree.drop_along(mesh);
+    }
+
     // What comes before each vertex on its path from the source, by the list that the ring was made of.
     fn befores(&self, alloc: Global, ring: &Ring) -> Result<Vec<Before>, Memory>
         requires { (tris : List Tri) × IsTreeOf ring.now.corners tris self.now }

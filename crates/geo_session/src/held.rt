@@ -14,9 +14,9 @@ ghost use Rattle.geo_session.specs.Told.{Tells};
 
 use crate::grown::Grown;
 use crate::parts::given_parts;
-use cut_tri::triangles;
 use dual_tree::{Board, boxes_of, locate};
 use exact_plane::{Memory, Pt, Steps};
+use flip_tri::cut_triangles;
 use geo_reply::{Reply, Row};
 use geo_text::Bad;
 use guards3::guards_of;
@@ -76,7 +76,9 @@ impl Held {
         requires { IsTreeOf self.old.ring.corners self.old.tris grown }
         ensures { self.new ≡ record { ring = self.old.ring; tris = self.old.tris; source = Some grown.source; prepared = self.old.prepared } }
     {
-        self.grown = Some(grown);
+        if let Some(before) = self.grown.replace(grown) {
+            before.drop_along(&self.mesh);
+        }
     }
 
     // Keeps the table of all pairs.
@@ -159,7 +161,7 @@ impl Held {
         Ok(Reply::Kernel(Row::of(corners)))
     }
 
-    // The guards, by the triangles that the vertices determine.
+    // The guards, by the triangles that the vertices determine, to which those of the mesh are flipped.
     pub(crate) fn guards<L: Ledger>(
         &self,
         alloc: Global,
@@ -169,7 +171,7 @@ impl Held {
         ensures steps { steps.new ≤ steps.old + guards_steps (length self.now.ring.corners) }
     {
         let _is_counterclockwise = self.ring.len();
-        let tris = triangles(alloc, &self.ring, steps)?;
+        let tris = cut_triangles(alloc, &self.ring, &self.mesh, steps)?;
         let numbers = guards_of(alloc, &self.ring, &tris)?;
         Ok(Reply::Guards(Row::of(numbers)))
     }

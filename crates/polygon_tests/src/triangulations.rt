@@ -1,8 +1,12 @@
-// Triangulations by diagonals, and by a sweep.
+// Triangulations by diagonals, by a sweep, and by flips, which give the triangles of that by diagonals.
+ghost use Rattle.std.specs.Prelude.{IfOk};
+ghost use Rattle.meshes.specs.Fits.{Fits};
+
 use crate::polygons::{POLYGONS, are_flat_triangles, area_of, row_of, vertices_of};
 use crate::ring_lists::{ring_of, swept_mesh};
 use cut_tri::triangulate;
 use exact_plane::{Memory, Steps};
+use flip_tri::cut_triangles;
 use geo_gen::comb;
 use meshes::Tri;
 use ring_check::Ring;
@@ -31,7 +35,7 @@ impl Method {
     }
 }
 
-// By diagonals, and by a sweep, which takes the greatest comb too.
+// By diagonals, by a sweep, which takes the greatest comb too, and by flips, which give the triangles of the first.
 pub(crate) fn each_polygon_is_triangulated<L: Ledger, R: Abort>(
     rt: &R,
     alloc: Global,
@@ -39,6 +43,7 @@ pub(crate) fn each_polygon_is_triangulated<L: Ledger, R: Abort>(
 ) -> Result<(), Memory> {
     all_polygons(rt, alloc, Method::Diagonals, steps)?;
     all_polygons(rt, alloc, Method::Sweep, steps)?;
+    flips_give_the_cut(rt, alloc, steps)?;
     greatest_comb(rt, alloc, steps)
 }
 
@@ -131,6 +136,40 @@ fn has_flat_triangles<L: Ledger, R: Abort>(
     let mesh = method.mesh_of(alloc, &ring, steps)?;
     assert!(rt; are_flat_triangles(&triangles_of(alloc, &mesh)?));
     Ok(())
+}
+
+// Of each polygon flips give the same triangles as diagonals do, in some order.
+fn flips_give_the_cut<L: Ledger, R: Abort>(
+    rt: &R,
+    alloc: Global,
+    steps: &mut Steps<L>,
+) -> Result<(), Memory> {
+    for row in POLYGONS.split("\n\n") {
+        let (name, ring, _) = row_of(rt, alloc, row, steps);
+        let cut = triangles_of(alloc, &triangulate(alloc, &ring, steps)?)?;
+        let tris = flipped(alloc, &ring, steps)?;
+        for tri in &cut {
+            assert!(rt; has_triangle(&tris, tri), "triangles of {name} by flips");
+        }
+    }
+    Ok(())
+}
+
+fn has_triangle(tris: &[Tri], tri: &Tri) -> bool {
+    for other in tris {
+        if has_side(other, tri.a, tri.b) && has_side(other, tri.b, tri.c) {
+            return true;
+        }
+    }
+    false
+}
+
+// The triangles of a sweep, flipped.
+fn flipped<L: Ledger>(alloc: Global, ring: &Ring, steps: &mut Steps<L>) -> Result<Vec<Tri>, Memory>
+    ensures { IfOk result (λ tris. Fits ring.now.corners tris.items) }
+{
+    let mesh = swept_mesh(alloc, ring, steps)?;
+    cut_triangles(alloc, ring, &mesh, steps)
 }
 
 // The comb of 2,047 teeth has 4,096 vertices.

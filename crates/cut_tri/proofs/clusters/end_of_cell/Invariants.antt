@@ -1,8 +1,0 @@
-use Rattle.std.proofs.Common.{◌-◌, ◌<◌, ◌≤◌, length}
-use Rattle.cut_tri.proofs.clusters.end_of_cell.Given as goal
-
-abbrev pub invariant-loop-end : goal.invariant-loop-end
-invariant-loop-end l = record { some : l.first < l.end; within : l.end ≤ length l.keys }
-
-abbrev pub decreases-loop-end : goal.decreases-loop-end
-decreases-loop-end l = length l.keys - l.end
