@@ -129,7 +129,7 @@ impl PathTree {
     }
 
     /// Drops the tree, funnel by funnel along an order of the mesh's triangles outward. Along another one its funnels were made, and most
-    /// triangles follow each other in both; so nodes that were made one after another are given back so, which takes half the time.
+    /// triangles follow each other in both; so nodes that were made one after another are given back so.
     pub fn drop_along(self, mesh: &Mesh) {
         let PathTree { mut funnels, .. } = self;
         for at in mesh.rooted().order {
