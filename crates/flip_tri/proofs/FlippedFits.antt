@@ -6,19 +6,20 @@ use Rattle.std.proofs.lemmas.Int.{ints}
 use Rattle.std.proofs.lemmas.List.{get_or-set_other}
 use Rattle.std.specs.List.{range_with_len}
 use Rattle.std.specs.Prelude.{slice_set}
+use Rattle.plane.proofs.Lists.{in_range}
 use Rattle.plane.specs.Point.{Point, whole}
 use Rattle.plane.specs.Turn.{IsLeft}
 use Rattle.rings.specs.Ring.{vertex}
 use Rattle.meshes.proofs.Boundaries.{fits_bounded, sides_cancel}
 use Rattle.meshes.specs.Boundary.{HaveBoundary, IsOdd, sum_sides}
-use Rattle.meshes.specs.Fits.{Fits, IsTriOf}
+use Rattle.meshes.specs.Fits.{Fits, IsCounterclockwiseTri, IsTriOf}
 use Rattle.meshes.specs.Piece.{IsPolygonPiece}
 use Rattle.meshes.specs.Side.{tri_at}
 use Rattle.meshes.specs.declared.tri.Tri.{Tri}
 use Rattle.flip_tri.proofs.FlippedTurns.{first_turns, second_turns}
-use Rattle.flip_tri.proofs.Rounds.{IsReadFrom, has_first, has_second, has_third, read_from, turns_left}
+use Rattle.flip_tri.proofs.Rounds.{IsReadFrom, quad_below, read_from, turns_left}
 use Rattle.flip_tri.proofs.TwoReplaced.{replaced_first, replaced_length, replaced_others, replaced_second}
-use Rattle.flip_tri.specs.Flips.{IsQuadOf, IsQuadToFlip}
+use Rattle.flip_tri.specs.Flips.{IsQuadBelow, IsQuadOf, IsQuadToFlip}
 use Rattle.flip_tri.specs.Shared.{flipped}
 use Rattle.flip_tri.specs.declared.quad.Quad.{Quad}
 
@@ -94,6 +95,20 @@ module _ (corners : List Point) (tris : List Tri) (fits : Fits corners tris) (k 
   far_is : IsTriOf corners piece far_tri
   far_is = fits.triangles l l_in_list
 
+  -- the corners of the quadrilateral are vertices
+  vertices : IsQuadBelow (length corners) quad
+  vertices = quad_below corners tris fits k l quad k_in_list l_in_list is
+
+  -- so a counterclockwise triangle of vertices is one of the ring
+  tri_of_vertices : (t : Tri) → t.a < length corners → t.b < length corners → t.c < length corners → IsCounterclockwiseTri corners t
+      → IsTriOf corners piece t
+  tri_of_vertices t a b c left = record {
+    has_a = in_range (length corners) t.a a;
+    has_b = in_range (length corners) t.b b;
+    has_c = in_range (length corners) t.c c;
+    counterclockwise = left;
+  }
+
   -- the two triangles turn left before
   pub near_left : IsLeft (whole (vertex corners quad.from)) (whole (vertex corners quad.to)) (whole (vertex corners quad.left))
   near_left = turns_left corners near_tri quad.from quad.to quad.left is.near near_is.counterclockwise
@@ -103,20 +118,10 @@ module _ (corners : List Point) (tris : List Tri) (fits : Fits corners tris) (k 
 
   -- and the new ones too
   pub first_is : IsTriOf corners piece first
-  first_is = record {
-    has_a = has_first corners near_tri quad.from quad.to quad.left is.near piece near_is;
-    has_b = has_third corners far_tri quad.to quad.from quad.right is.far piece far_is;
-    has_c = has_third corners near_tri quad.from quad.to quad.left is.near piece near_is;
-    counterclockwise = first_turns corners quad near_left far_left to_flip;
-  }
+  first_is = tri_of_vertices first vertices.from vertices.right vertices.left (first_turns corners quad near_left far_left to_flip)
 
   pub second_is : IsTriOf corners piece second
-  second_is = record {
-    has_a = has_third corners far_tri quad.to quad.from quad.right is.far piece far_is;
-    has_b = has_second corners near_tri quad.from quad.to quad.left is.near piece near_is;
-    has_c = has_third corners near_tri quad.from quad.to quad.left is.near piece near_is;
-    counterclockwise = second_turns corners quad near_left far_left to_flip;
-  }
+  second_is = tri_of_vertices second vertices.right vertices.to vertices.left (second_turns corners quad near_left far_left to_flip)
 
   triangles : (m : ℕ) → m < length after → IsTriOf corners piece (tri_at after m)
   triangles m below = elim (cases_eq m k) [

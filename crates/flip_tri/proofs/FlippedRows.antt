@@ -88,35 +88,32 @@ module _ (tris : List Tri) (k l : ℕ) (quad : Quad) (flip : IsFlip tris k l qua
     within = within;
   }
 
+  -- a row with what is across from each side of its triangle is known
+  row_known : (m : ℕ) (t : Tri) (o p q : Option ℕ) → tri_at now m ≡ t → ((side : ℕ) → entry two_set m side ≡ slice_index_or (o ∷ p ∷ q ∷ []) side None)
+      → IsAcrossFrom now (side_begin t 0) (side_end t 0) o → IsAcrossFrom now (side_begin t 1) (side_end t 1) p
+      → IsAcrossFrom now (side_begin t 2) (side_end t 2) q → (side : ℕ) → side < 3 → IsKnown now two_set m side
+  row_known m t o p q is_tri is_row first second third side in_row =
+      subst (IsAcrossFrom now (side_begin (tri_at now m) side) (side_end (tri_at now m) side)) (sym (is_row side))
+      (subst (λ u. IsAcrossFrom now (side_begin u side) (side_end u side) (slice_index_or (o ∷ p ∷ q ∷ []) side None)) (sym is_tri)
+      (three_items (λ at a. IsAcrossFrom now (side_begin t at) (side_end t at) a) o p q first second third side in_row))
+
   -- all entries are known but those for the sides from d to i and from c to j
   known_first : (m side : ℕ) → m < length now → side < 3 → ¬ ((side_begin (tri_at now m) side ≡ quad.right) × (side_end (tri_at now m) side ≡ quad.from))
       → ¬ ((side_begin (tri_at now m) side ≡ quad.left) × (side_end (tri_at now m) side ≡ quad.to)) → IsKnown now two_set m side
   known_first m side below in_row not_first not_second = elim (cases_eq m k) [
     | inl same ↦
-        let t = first tris k l quad flip in
-        let h : IsAcrossFrom now (side_begin t side) (side_end t side) (slice_index_or near_row side None) =
-        three_items (λ at o. IsAcrossFrom now (side_begin t at) (side_end t at) o) from_right (Some l) left_from
+        subst (λ a. IsKnown now two_set a side) (sym same)
+        (row_known k (first tris k l quad flip) from_right (Some l) left_from (at_near tris k l quad flip) entry_near
         (beside_from_right tris k l quad flip to_left left_from from_right right_to beside)
         (beside_near tris k l quad flip to_left left_from from_right right_to beside)
-        (beside_left_from tris k l quad flip to_left left_from from_right right_to beside)
-        side in_row in
-        subst (λ a. IsKnown now two_set a side) (sym same)
-        (subst (IsAcrossFrom now (side_begin (tri_at now k) side) (side_end (tri_at now k) side)) (sym (entry_near side))
-        (subst (λ u. IsAcrossFrom now (side_begin u side) (side_end u side) (slice_index_or near_row side None))
-        (sym (at_near tris k l quad flip)) h))
+        (beside_left_from tris k l quad flip to_left left_from from_right right_to beside) side in_row)
     | inr not_k ↦ elim (cases_eq m l) [
       | inl same ↦
-          let t = second tris k l quad flip in
-          let h : IsAcrossFrom now (side_begin t side) (side_end t side) (slice_index_or far_row side None) =
-          three_items (λ at o. IsAcrossFrom now (side_begin t at) (side_end t at) o) right_to to_left (Some k)
+          subst (λ a. IsKnown now two_set a side) (sym same)
+          (row_known l (second tris k l quad flip) right_to to_left (Some k) (at_far tris k l quad flip) entry_far
           (beside_right_to tris k l quad flip to_left left_from from_right right_to beside)
           (beside_to_left tris k l quad flip to_left left_from from_right right_to beside)
-          (beside_far tris k l quad flip to_left left_from from_right right_to beside)
-          side in_row in
-          subst (λ a. IsKnown now two_set a side) (sym same)
-          (subst (IsAcrossFrom now (side_begin (tri_at now l) side) (side_end (tri_at now l) side)) (sym (entry_far side))
-          (subst (λ u. IsAcrossFrom now (side_begin u side) (side_end u side) (slice_index_or far_row side None))
-          (sym (at_far tris k l quad flip)) h))
+          (beside_far tris k l quad flip to_left left_from from_right right_to beside) side in_row)
       | inr not_l ↦
           let is_old = at_other tris k l quad flip m not_k not_l in
           let old = tri_at tris m in

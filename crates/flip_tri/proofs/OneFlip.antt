@@ -1,17 +1,14 @@
 -- A flip of a shared side in triangles that fit a ring: its corners are vertices, and what it makes fits.
 use Rattle.std.proofs.Common.{◌≤◌, List, length}
-use Rattle.std.specs.List.{range_with_len}
 use Rattle.plane.specs.Point.{Point}
 use Rattle.rings.specs.Orientation.{IsCounterclockwise}
 use Rattle.rings.specs.Simple.{IsSimple}
-use Rattle.meshes.proofs.Sides.{below_of_member}
 use Rattle.meshes.proofs.Triangulations.{ring_is_piece}
 use Rattle.meshes.specs.Fits.{Fits}
-use Rattle.meshes.specs.Side.{tri_at}
 use Rattle.meshes.specs.declared.tri.Tri.{Tri}
 use Rattle.flip_tri.proofs.FlippedFits.{fits_after}
 use Rattle.flip_tri.proofs.FlippedRanks.{ranks_grow}
-use Rattle.flip_tri.proofs.Rounds.{has_first, has_second, has_third}
+use Rattle.flip_tri.proofs.Rounds.{quad_below}
 use Rattle.flip_tri.proofs.SharedQuads.{quad_of_shared}
 use Rattle.flip_tri.proofs.TwoReplaced.{replaced_length, replaced_others}
 use Rattle.flip_tri.specs.Flips.{IsQuadBelow, IsFlipped, IsQuadToFlip}
@@ -25,17 +22,7 @@ module _ (corners : List Point) (tris : List Tri) (fits : Fits corners tris) (sh
 
   -- its corners are vertices
   pub corners_below : IsQuadBelow (length corners) quad
-  corners_below =
-      let n = length corners in
-      let quad_is = quad_of_shared tris shared is in
-      let near = fits.triangles shared.near is.near in
-      let far = fits.triangles shared.far is.far in
-      record {
-        from = below_of_member n quad.from (has_first corners (tri_at tris shared.near) quad.from quad.to quad.left quad_is.near (range_with_len 0 n) near);
-        to = below_of_member n quad.to (has_second corners (tri_at tris shared.near) quad.from quad.to quad.left quad_is.near (range_with_len 0 n) near);
-        left = below_of_member n quad.left (has_third corners (tri_at tris shared.near) quad.from quad.to quad.left quad_is.near (range_with_len 0 n) near);
-        right = below_of_member n quad.right (has_third corners (tri_at tris shared.far) quad.to quad.from quad.right quad_is.far (range_with_len 0 n) far);
-      }
+  corners_below = quad_below corners tris fits shared.near shared.far quad is.near is.far (quad_of_shared tris shared is)
 
   module _ (to_flip : IsQuadToFlip corners quad) where
     abbrev after : List Tri

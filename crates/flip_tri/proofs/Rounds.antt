@@ -1,16 +1,18 @@
--- A triangle read from any of its corners.
-use Rattle.std.proofs.Common.{◌≡◌, ◌≢◌, ◌⊎◌, inl, inr, sym, subst, ◌∙◌, ℕ, List}
-use Rattle.std.specs.List.{Contains}
+-- A triangle read from any of its corners, and the corners of two with a common side.
+use Rattle.std.proofs.Common.{◌≡◌, ◌≢◌, ◌⊎◌, inl, inr, sym, subst, ◌∙◌, ℕ, ◌<◌, List, length}
+use Rattle.std.specs.List.{Contains, range_with_len}
 use Rattle.plane.specs.Point.{Point, Triple, whole}
 use Rattle.plane.specs.Triangle.{IsInTriangle}
 use Rattle.plane.specs.Turn.{IsLeft}
 use Rattle.rings.specs.Ring.{vertex}
 use Rattle.ring_laws.proofs.Triangles.{left_at_last}
-use Rattle.meshes.proofs.Sides.{corners_differ}
-use Rattle.meshes.specs.Fits.{IsCounterclockwiseTri, IsInTri, IsTriOf}
-use Rattle.meshes.specs.Side.{HasCorner, HasSide}
+use Rattle.meshes.proofs.Sides.{below_of_member, corners_differ}
+use Rattle.meshes.specs.Fits.{Fits, IsCounterclockwiseTri, IsInTri, IsTriOf}
+use Rattle.meshes.specs.Side.{HasCorner, HasSide, tri_at}
 use Rattle.meshes.specs.declared.tri.Tri.{Tri}
 use Rattle.flip_tri.specs.Flip.{HasRound}
+use Rattle.flip_tri.specs.Flips.{IsQuadBelow, IsQuadOf}
+use Rattle.flip_tri.specs.declared.quad.Quad.{Quad}
 
 -- its corners are i, j and k, from a on, from b on or from c on
 abbrev pub IsReadFrom : Tri → ℕ → ℕ → ℕ → Type 0
@@ -41,14 +43,28 @@ module _ (corners : List Point) (t : Tri) (i j k : ℕ) (round : HasRound t i j 
     member a b (inr (inl e)) = subst (Contains piece) e.0 is.has_b
     member a b (inr (inr e)) = subst (Contains piece) e.0 is.has_c
 
-    pub has_first : Contains piece i
+    has_first : Contains piece i
     has_first = member i j round.first
 
-    pub has_second : Contains piece j
+    has_second : Contains piece j
     has_second = member j k round.second
 
-    pub has_third : Contains piece k
+    has_third : Contains piece k
     has_third = member k i round.third
+
+-- the corners of a quadrilateral of two triangles are vertices
+pub quad_below : (corners : List Point) (tris : List Tri) → Fits corners tris → (k l : ℕ) (quad : Quad) → k < length tris → l < length tris
+    → IsQuadOf tris k l quad → IsQuadBelow (length corners) quad
+quad_below corners tris fits k l quad k_in_list l_in_list is =
+    let n = length corners in
+    let near = fits.triangles k k_in_list in
+    let far = fits.triangles l l_in_list in
+    record {
+      from = below_of_member n quad.from (has_first corners (tri_at tris k) quad.from quad.to quad.left is.near (range_with_len 0 n) near);
+      to = below_of_member n quad.to (has_second corners (tri_at tris k) quad.from quad.to quad.left is.near (range_with_len 0 n) near);
+      left = below_of_member n quad.left (has_third corners (tri_at tris k) quad.from quad.to quad.left is.near (range_with_len 0 n) near);
+      right = below_of_member n quad.right (has_third corners (tri_at tris l) quad.to quad.from quad.right is.far (range_with_len 0 n) far);
+    }
 
 -- ---- as a tile
 

@@ -62,6 +62,11 @@ module _ (tris : List Tri) (shared : Shared) (is : IsShared tris shared) where
   }
 
 module _ (tris : List Tri) (rows : List (List (Option ℕ))) (knows : KnowsNeighbours tris rows) where
+  -- what has been read of the row of a triangle is its entry
+  pub entry_read : (k side : ℕ) (row : List (Option ℕ)) (o : Option ℕ) → k < length tris → row ≡ get_or rows k row → o ≡ get_or row side None
+      → o ≡ entry rows k side
+  entry_read k side row o below is_row e = e ∙ ap (λ r. get_or r side None) (get_or_read rows k row (omega (arith, below, knows.count)) is_row [])
+
   -- the entry of a row is in the list
   in_list : (k side : ℕ) → k < length tris → side < 3 → (o : Option ℕ) → o ≡ entry rows k side → IfSome o (λ m. m < length tris)
   in_list k side below in_row None at = tt
@@ -74,23 +79,16 @@ module _ (tris : List Tri) (rows : List (List (Option ℕ))) (knows : KnowsNeigh
     -- the rows have what is beside the sides of the quadrilateral
     module _ (quad : Quad) (at : quad ≡ quad_of tris shared) (near_row far_row : List (Option ℕ)) (is_near_row : near_row ≡ get_or rows shared.near near_row)
         (is_far_row : far_row ≡ get_or rows shared.far far_row) where
-      near_entry : (side : ℕ) (o : Option ℕ) → o ≡ get_or near_row side None → o ≡ entry rows shared.near side
-      near_entry side o e =
-          e ∙ ap (λ row. get_or row side None) (get_or_read rows shared.near near_row (omega (arith, is.near, knows.count)) is_near_row [])
-
-      far_entry : (side : ℕ) (o : Option ℕ) → o ≡ get_or far_row side None → o ≡ entry rows shared.far side
-      far_entry side o e = e ∙ ap (λ row. get_or row side None) (get_or_read rows shared.far far_row (omega (arith, is.far, knows.count)) is_far_row [])
-
       pub has_beside : (to_left left_from from_right right_to : Option ℕ) → to_left ≡ get_or near_row (next_side shared.near_side) None
           → left_from ≡ get_or near_row (next_side (next_side shared.near_side)) None → from_right ≡ get_or far_row (next_side shared.far_side) None
           → right_to ≡ get_or far_row (next_side (next_side shared.far_side)) None → HasBeside tris quad to_left left_from from_right right_to
       has_beside to_left left_from from_right right_to third fourth first second =
           let near = others (tri_at tris shared.near) shared.near_side is.near_side in
           let far = others (tri_at tris shared.far) shared.far_side is.far_side.below in
-          let at_first = far_entry (next_side shared.far_side) from_right first in
-          let at_second = far_entry (next_side (next_side shared.far_side)) right_to second in
-          let at_third = near_entry (next_side shared.near_side) to_left third in
-          let at_fourth = near_entry (next_side (next_side shared.near_side)) left_from fourth in
+          let at_first = entry_read shared.far (next_side shared.far_side) far_row from_right is.far is_far_row first in
+          let at_second = entry_read shared.far (next_side (next_side shared.far_side)) far_row right_to is.far is_far_row second in
+          let at_third = entry_read shared.near (next_side shared.near_side) near_row to_left is.near is_near_row third in
+          let at_fourth = entry_read shared.near (next_side (next_side shared.near_side)) near_row left_from is.near is_near_row fourth in
           subst (λ q. HasBeside tris q to_left left_from from_right right_to) (sym at) (record {
             is_from_right = beside_moved tris (far.next_begins ∙ is.far_side.ends) far.next_ends at_first (known shared.far (next_side shared.far_side) is.far far.next);
             is_right_to = beside_moved tris far.last_begins (far.last_ends ∙ is.far_side.begins) at_second (known shared.far (next_side (next_side shared.far_side)) is.far far.last);

@@ -7,8 +7,9 @@ use Rattle.flip_tri.proofs.OneFlip.{corners_below, flip_fits, flip_flips}
 use Rattle.flip_tri.proofs.SettledSides.{settled_alone, settled_at, settled_shared}
 use Rattle.flip_tri.specs.Flips.{IsQuadBelow, IsFlipped, IsQuadToFlip}
 use Rattle.flip_tri.specs.Shared.{HasNoFlipOver, flipped, quad_of}
+use Rattle.flip_tri.proofs.flips.Flips.flip_at.Given.{Over}
 use Rattle.flip_tri.proofs.flips.Flips.flip_at.Goals as goal
-use Rattle.flip_tri.proofs.flips.Flips.flip_at.Goals.{in-Some+else-is_to_flip, in_default}
+use Rattle.flip_tri.proofs.flips.Flips.flip_at.Goals.{Then-is_to_flip, in-Some+else-is_to_flip, in_default}
 
 pub shared-requires-clause-once : goal.shared-requires-clause-once
 shared-requires-clause-once c = λ d. fitting_sides d.args.ring.now.corners d.loop-side.self.tris.items d.loop-side.invariant.flips.fits
@@ -24,44 +25,41 @@ is_to_flip-requires c = λ d.
 pub flip-requires-clause-before : goal.flip-requires-clause-before
 flip-requires-clause-before c = λ d. fitting_sides d.args.ring.now.corners d.loop-side.self.tris.items d.loop-side.invariant.flips.fits
 
+-- a shared side is to be flipped
+module _ (c : Over) (d : Then-is_to_flip c) where
+  to_flip : IsQuadToFlip d.args.ring.now.corners (quad_of d.loop-side.self.tris.items d.in-Some.shared)
+  to_flip = subst (IsQuadToFlip d.args.ring.now.corners) d.quad-quad.ensures (d.if-is_to_flip.ensures.flip.0 refl)
+
+  fits_then : let tris = d.loop-side.self.tris.items in let shared = d.in-Some.shared in
+      Fits d.args.ring.now.corners (flipped tris shared.near shared.far (quad_of tris shared))
+  fits_then =
+      let ring = d.len-length.ensures in
+      flip_fits _ _ d.loop-side.invariant.flips.fits _ d.in-Some.ensures.some to_flip ring.size.0 ring.simple ring.counterclockwise
+
 pub flip-requires-clause-once : goal.flip-requires-clause-once
 flip-requires-clause-once c = λ d.
-    let tris = d.loop-side.self.tris.items in
-    let corners = d.args.ring.now.corners in
     let shared = d.in-Some.shared in
-    let fits = d.loop-side.invariant.flips.fits in
-    let is = d.in-Some.ensures.some in
-    let to_flip : IsQuadToFlip corners (quad_of tris shared) = subst (IsQuadToFlip corners) d.quad-quad.ensures (d.if-is_to_flip.ensures.flip.0 refl) in
-    let ring = d.len-length.ensures in
-    let fits_then = flip_fits corners tris fits shared is to_flip ring.size.0 ring.simple ring.counterclockwise in
-    subst (λ quad. HasSidesOnce (flipped tris shared.near shared.far quad)) (sym d.quad-quad.ensures)
-    (fitting_sides corners (flipped tris shared.near shared.far (quad_of tris shared)) fits_then)
+    subst (λ quad. HasSidesOnce (flipped d.loop-side.self.tris.items shared.near shared.far quad)) (sym d.quad-quad.ensures)
+    (fitting_sides _ _ (fits_then c (goal.at.flip-requires-clause-once c d).Then-is_to_flip))
 
 pub returns-then-is_to_flip-clause-flips : goal.returns-then-is_to_flip-clause-flips
 returns-then-is_to_flip-clause-flips c = λ d.
-    let tris = d.loop-side.self.tris.items in
-    let corners = d.args.ring.now.corners in
     let shared = d.in-Some.shared in
-    let fits = d.loop-side.invariant.flips.fits in
-    let is = d.in-Some.ensures.some in
-    let to_flip : IsQuadToFlip corners (quad_of tris shared) = subst (IsQuadToFlip corners) d.quad-quad.ensures (d.if-is_to_flip.ensures.flip.0 refl) in
-    let ring = d.len-length.ensures in
-    let fits_then = flip_fits corners tris fits shared is to_flip ring.size.0 ring.simple ring.counterclockwise in
-    let now = d.flip.ensures.tris ∙ ap (flipped tris shared.near shared.far) d.quad-quad.ensures in
-    record { fits = subst (Fits corners) (sym now) fits_then; knows = d.flip.ensures.knows }
+    let now = d.flip.ensures.tris ∙ ap (flipped d.loop-side.self.tris.items shared.near shared.far) d.quad-quad.ensures in
+    let fits_now = fits_then c (goal.at.returns-then-is_to_flip-clause-flips c d).Then-is_to_flip in
+    record { fits = subst (Fits d.args.ring.now.corners) (sym now) fits_now; knows = d.flip.ensures.knows }
 
 pub returns-then-is_to_flip-clause-some : goal.returns-then-is_to_flip-clause-some
 returns-then-is_to_flip-clause-some c = λ d.
     let tris = d.loop-side.self.tris.items in
     let corners = d.args.ring.now.corners in
     let shared = d.in-Some.shared in
-    let fits = d.loop-side.invariant.flips.fits in
-    let is = d.in-Some.ensures.some in
-    let to_flip : IsQuadToFlip corners (quad_of tris shared) = subst (IsQuadToFlip corners) d.quad-quad.ensures (d.if-is_to_flip.ensures.flip.0 refl) in
     let now = d.flip.ensures.tris ∙ ap (flipped tris shared.near shared.far) d.quad-quad.ensures in
+    let flips = flip_flips corners tris d.loop-side.invariant.flips.fits shared d.in-Some.ensures.some
+    (to_flip c (goal.at.returns-then-is_to_flip-clause-some c d).Then-is_to_flip) in
     subst (λ k. IsFlipped corners d.args.self.now.tris.items d.flip.new.self.tris.items k shared.far) d.in-Some.ensures.near.0
     (subst (λ ts. IsFlipped corners ts d.flip.new.self.tris.items shared.near shared.far) d.loop-side.invariant.tris
-    (subst (λ ts. IsFlipped corners tris ts shared.near shared.far) (sym now) (flip_flips corners tris fits shared is to_flip)))
+    (subst (λ ts. IsFlipped corners tris ts shared.near shared.far) (sym now) flips))
 
 pub loop-side-preserved : goal.loop-side-preserved
 loop-side-preserved c = λ d.

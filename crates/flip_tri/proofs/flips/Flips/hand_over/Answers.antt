@@ -1,33 +1,33 @@
-use Rattle.std.proofs.Common.{◌≡◌, sym, subst, ◌∙◌, ◌<◌, IfSome, Some, [], length, arith}
+use Rattle.std.proofs.Common.{◌≡◌, sym, subst, ◌∙◌, ◌<◌, IfSome, Some, [], length, get_or, arith}
 use Rattle.std.proofs.lemmas.List.{get_or_read}
+use Rattle.meshes.specs.Side.{tri_at}
 use Rattle.flip_tri.proofs.HandedOver.{known_at, known_kept}
 use Rattle.flip_tri.specs.Shared.{IsSideNumber}
 use Rattle.flip_tri.proofs.flips.Flips.hand_over.Goals as goal
+use Rattle.flip_tri.proofs.flips.Flips.hand_over.Goals.{After-index_mut}
+
+-- the triangle beside, its row, and the number of its side have been read
+module _ (c : After-index_mut) where
+  within : c.in-Some.tri < length c.args.self.now.tris.items
+  within = subst (λ o. IfSome o (λ k. k < length c.args.self.now.tris.items)) c.in-Some.is c.requires.beside
+
+  row : c.index_mut.result.now ≡ get_or c.args.self.now.neighbours.items c.in-Some.tri []
+  row =
+      let count = c.requires.rows.count in
+      get_or_read c.args.self.now.neighbours.items c.in-Some.tri c.index_mut.result.now (omega (arith, within, count)) c.index_mut.ensures.value []
+
+  side : IsSideNumber (tri_at c.args.self.now.tris.items c.in-Some.tri) c.args.from c.args.to c.in-Some-number_of.side
+  side =
+      let tri = get_or_read c.args.self.now.tris.items c.in-Some.tri c.index.result.now within c.index.ensures (record { a = 0; b = 0; c = 0 }) in
+      subst (λ u. IsSideNumber u c.args.from c.args.to c.in-Some-number_of.side) tri c.in-Some-number_of.ensures.some
 
 pub returns-in-Some-number_of-clause-kept : goal.returns-in-Some-number_of-clause-kept
 returns-in-Some-number_of-clause-kept c =
-    let a = c.args in
-    let tris = a.self.now.tris.items in
-    let rows = a.self.now.neighbours.items in
-    let t = c.in-Some.tri in
-    let within : t < length tris = subst (λ o. IfSome o (λ k. k < length tris)) c.in-Some.is c.requires.beside in
-    let count = c.requires.rows.count in
-    let is_tri = get_or_read tris t c.index.result.now within c.index.ensures (record { a = 0; b = 0; c = 0 }) in
-    let is_row = get_or_read rows t c.index_mut.result.now (omega (arith, within, count)) c.index_mut.ensures.value [] in
-    let side = subst (λ u. IsSideNumber u a.from a.to c.in-Some-number_of.side) is_tri c.in-Some-number_of.ensures.some in
-    known_kept tris c.requires.once rows c.requires.rows t c.in-Some-number_of.side a.from a.to within side a.other c.requires.other c.requires.has
-    c.index_mut.result.now is_row
+    let read = (goal.at.returns-in-Some-number_of-clause-kept c).After-index_mut in
+    known_kept _ c.requires.once _ c.requires.rows _ _ _ _ (within read) (side read) _ c.requires.other c.requires.has _ (row read)
 
 pub returns-in-Some-number_of-clause-known : goal.returns-in-Some-number_of-clause-known
 returns-in-Some-number_of-clause-known c =
-    let a = c.args in
-    let tris = a.self.now.tris.items in
-    let rows = a.self.now.neighbours.items in
-    let t = c.in-Some.tri in
-    let within : t < length tris = subst (λ o. IfSome o (λ k. k < length tris)) c.in-Some.is c.requires.beside in
-    let count = c.requires.rows.count in
-    let is_tri = get_or_read tris t c.index.result.now within c.index.ensures (record { a = 0; b = 0; c = 0 }) in
-    let is_row = get_or_read rows t c.index_mut.result.now (omega (arith, within, count)) c.index_mut.ensures.value [] in
-    let side = subst (λ u. IsSideNumber u a.from a.to c.in-Some-number_of.side) is_tri c.in-Some-number_of.ensures.some in
-    λ k n at. known_at tris c.requires.once rows c.requires.rows t c.in-Some-number_of.side a.from a.to within side a.other c.requires.other
-    c.requires.has c.index_mut.result.now is_row k n (let e : Some k ≡ Some t = sym at ∙ c.in-Some.is in cc)
+    let read = (goal.at.returns-in-Some-number_of-clause-known c).After-index_mut in
+    λ k n at. known_at _ c.requires.once _ c.requires.rows _ _ _ _ (within read) (side read) _ c.requires.other c.requires.has _ (row read) k n
+    (let e : Some k ≡ Some c.in-Some.tri = sym at ∙ c.in-Some.is in cc)
