@@ -14,7 +14,8 @@ PAIRED = [256, 1024]  # for `pair` and `sights`, which take no more vertices
 MOST = {1: 4096, 2: 16_384}  # vertices in a version of the script
 BYTES = [1_048_576, 8_388_608]
 PLACES, VIEWS, LONG_VIEWS, PATHS, LISTS, PEGS, TIMES, WALKS = 1000, 100, 10, 200, 10, 16, 20, 10
-ENOUGH, REPEATS = 0.03, 512
+ENOUGH, PLENTY = 0.03, 0.3  # seconds of the processor that the records of a job take together
+LEAST, REPEATS = 16, 512
 
 
 @dataclass(frozen=True)
@@ -124,9 +125,14 @@ def jobs(sizes: List[int], only: str, ask: Ask) -> Iterator[Job]:
 
 def repeat(job: Job, one: str, ask: Ask, answer: Optional[str] = None) -> None:
     """Some records over and over, until that takes some 30 milliseconds and as long as all before them, and their answers where they are
-    known. Where there are more than one, the peers are asked each of them."""
+    known. They are asked sixteen times at least, unless that takes 0.3 seconds: the first records of a process fetch the memory that later
+    ones take again, and would weigh more in a large ring, where fewer are enough. Where there are more than one, the peers are asked each
+    of them."""
     rest, count = min(ask(job.before).processor for _ in range(2)), 1
-    while count < REPEATS and (spent := ask(job.before + count * one).processor - rest) < max(ENOUGH, rest):
+    while count < REPEATS:
+        spent = ask(job.before + count * one).processor - rest
+        if spent >= max(rest, ENOUGH if count >= LEAST else PLENTY):
+            break
         count = min(REPEATS, count * (2 if 2 * spent > ENOUGH else 8))
     job.asked = one.count('\n')
     job.times, job.timed = count * job.asked, count * one
