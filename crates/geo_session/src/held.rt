@@ -161,7 +161,7 @@ impl Held {
         Ok(Reply::Kernel(Row::of(corners)))
     }
 
-    // The guards, by the triangles that the vertices determine, to which those of the mesh are flipped.
+    // The guards, by the triangles that the vertices determine, to which those of the mesh are flipped where they are others.
     pub(crate) fn guards<L: Ledger>(
         &self,
         alloc: Global,

@@ -61,7 +61,7 @@ fn tris_of(alloc: Global, tris: &[Corners]) -> Result<Vec<Tri>, Memory>
     Ok(list)
 }
 
-// A mesh that fits the ring, by a sweep.
+// A mesh that fits the ring, by a sweep from its least vertex on.
 pub(crate) fn swept_mesh<L: Ledger>(
     alloc: Global,
     ring: &Ring,

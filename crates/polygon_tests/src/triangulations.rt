@@ -1,10 +1,11 @@
-// Triangulations by diagonals, by a sweep, and by flips, which give the triangles of that by diagonals.
+// Triangulations by diagonals, by sweeps, and by flips, which give the triangles of that by diagonals.
 ghost use Rattle.std.specs.Prelude.{IfOk};
 ghost use Rattle.meshes.specs.Fits.{Fits};
 
 use crate::polygons::{POLYGONS, are_flat_triangles, area_of, row_of, vertices_of};
 use crate::ring_lists::{ring_of, swept_mesh};
 use cut_tri::triangulate;
+use dual_tree::Board;
 use exact_plane::{Memory, Steps};
 use flip_tri::cut_triangles;
 use geo_gen::comb;
@@ -13,6 +14,7 @@ use ring_check::Ring;
 use std::alloc::Global;
 use std::process::Abort;
 use std::sync::ledger::Ledger;
+use sweep_tri::sweep_ring;
 use tri_mesh::Mesh;
 
 #[derive(Clone, Copy)]
@@ -35,7 +37,7 @@ impl Method {
     }
 }
 
-// By diagonals, by a sweep, which takes the greatest comb too, and by flips, which give the triangles of the first.
+// By diagonals, by a sweep, which takes the greatest comb too, and by flips and the sweep of a ring, which give the triangles of the first.
 pub(crate) fn each_polygon_is_triangulated<L: Ledger, R: Abort>(
     rt: &R,
     alloc: Global,
@@ -138,7 +140,8 @@ fn has_flat_triangles<L: Ledger, R: Abort>(
     Ok(())
 }
 
-// Of each polygon flips give the same triangles as diagonals do, in some order.
+// Of each polygon flips give the same triangles as diagonals do, in some order. So does the sweep of a ring, which goes from the greatest
+// vertex on, without a flip.
 fn flips_give_the_cut<L: Ledger, R: Abort>(
     rt: &R,
     alloc: Global,
@@ -148,8 +151,10 @@ fn flips_give_the_cut<L: Ledger, R: Abort>(
         let (name, ring, _) = row_of(rt, alloc, row, steps);
         let cut = triangles_of(alloc, &triangulate(alloc, &ring, steps)?)?;
         let tris = flipped(alloc, &ring, steps)?;
+        let swept = sweep_ring(alloc, &ring, &Board::without_ends(&ring), steps)?;
         for tri in &cut {
             assert!(rt; has_triangle(&tris, tri), "triangles of {name} by flips");
+            assert!(rt; has_triangle(&swept, tri), "triangles of {name} by a sweep");
         }
     }
     Ok(())
@@ -164,7 +169,7 @@ fn has_triangle(tris: &[Tri], tri: &Tri) -> bool {
     false
 }
 
-// The triangles of a sweep, flipped.
+// The triangles of a sweep from the least vertex on, flipped.
 fn flipped<L: Ledger>(alloc: Global, ring: &Ring, steps: &mut Steps<L>) -> Result<Vec<Tri>, Memory>
     ensures { IfOk result (λ tris. Fits ring.now.corners tris.items) }
 {

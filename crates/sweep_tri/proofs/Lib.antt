@@ -22,3 +22,5 @@ pub mod Work
 -- What the turn of three corners says of a vertex and an edge.
 -- An event that the sweep passes: what it needs of the state, and what it takes.
 pub mod Passes
+-- After a half turn of the plane a simple ring is simple, and the triangles that fit it are the same; the lexicographic order is the other one.
+pub mod HalfTurns

@@ -2,6 +2,7 @@ pub mod Entries
 pub mod Forks
 pub mod Frontier
 pub mod Gaps
+pub mod HalfTurn
 pub mod Meeting
 pub mod Open
 pub mod Passing

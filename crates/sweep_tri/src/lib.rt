@@ -3,6 +3,7 @@
 
 mod event;
 mod gap;
+mod half_turned;
 mod order;
 mod status;
 mod triangulation;

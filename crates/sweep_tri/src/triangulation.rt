@@ -7,6 +7,7 @@ ghost use Rattle.shared_seq.specs.Digits.{binary_digits};
 ghost use Rattle.ring_check.specs.Order.{IsInOrder};
 
 use crate::event::Sweep;
+use crate::half_turned::HalfTurned;
 use crate::order::lexical;
 use exact_plane::{Memory, Steps, Turns};
 use meshes::Tri;
@@ -14,8 +15,9 @@ use ring_check::{Ring, ranks_of};
 use std::alloc::Global;
 use std::sync::ledger::Ledger;
 
-/// Triangles that fit the ring, whose corners are those of the board, by a sweep in the order that the ring keeps, or else in one that is
-/// made here. It takes at most 64 n + 200 n b steps, n the number of corners and b that of its binary digits.
+/// Triangles that fit the ring, whose corners are those of the board, by a sweep from the greatest corner to the least, in the order that
+/// the ring keeps, or else in one that is made here. It takes at most 64 n + 200 n b steps, n the number of corners and b that of its
+/// binary digits.
 pub fn sweep_ring<T: Turns, L: Ledger>(
     alloc: Global,
     ring: &Ring,
@@ -27,13 +29,11 @@ pub fn sweep_ring<T: Turns, L: Ledger>(
     ensures steps { steps.new ≤ steps.old + 64 * length ring.now.corners + 200 * length ring.now.corners * binary_digits (length ring.now.corners) }
 {
     let _is_simple = ring.len();
-    match ring.order() {
-        Some(order) => sweep(alloc, board, order, steps),
-        None => {
-            let order = lexical(alloc, ring, steps)?;
-            sweep(alloc, board, &order, steps)
-        }
-    }
+    // So each corner is joined with those after it, as where a polygon is cut at its least vertices: in all rings that were tried the
+    // triangles are the same. From the least corner on, some rings have n n / 4 diagonals to flip until they are.
+    let mut order = lexical(alloc, ring, steps)?;
+    order.reverse();
+    sweep(alloc, &HalfTurned { board }, &order, steps)
 }
 
 /// Triangles that fit the polygon of the board's corners, which is simple and runs counterclockwise; `order` is the list of all
