@@ -144,6 +144,17 @@ def arch(n: int) -> Ring:
     return [(0, low), (right // 2, low - 1), (right, low)] + roof[::-1]
 
 
+def hourglass(n: int) -> Ring:
+    """A level edge under two chains that bend toward each other, of which each vertex of one sees those of the other: a triangulation of
+    what is between them can be far from another one."""
+    half = n // 2
+    left = [(x + y, x + 2 * y) for x, y in short_vectors(half)]
+    right = [(2 * x + 3 * y, -x - y) for x, y in short_vectors(n - half - 2)]
+    height = -sum(y for _, y in right)
+    chain = sums((0, 0), left) + sums((4 * height, height), right)
+    return chain[:1] + chain[:0:-1]
+
+
 def zigzag(n: int) -> Ring:
     """Long slanted edges side by side, of which the last ones clash: the edges n - 6 and n - 4 are the least pair."""
     last = n - 3
@@ -283,7 +294,7 @@ def turned(n: int) -> Ring:
 Shape = Callable[[int], Ring]
 SHAPES: Dict[str, Shape] = {shape.__name__: shape for shape in (comb, star, maze, spiral)}
 SIX_SHAPES: Dict[str, Shape] = SHAPES | {shape.__name__: shape for shape in (convex, moon)}
-MORE_SHAPES: Dict[str, Shape] = SIX_SHAPES | {shape.__name__: shape for shape in (skyline, saw, fan, arch, zigzag, turned, broom)}
+MORE_SHAPES: Dict[str, Shape] = SIX_SHAPES | {shape.__name__: shape for shape in (skyline, saw, fan, arch, hourglass, zigzag, turned, broom)}
 WAYS: Dict[str, Shape] = {'comb': way_along_comb, 'convex': way_across_convex, 'saw': way_past_teeth}
 
 

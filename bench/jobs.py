@@ -362,7 +362,7 @@ KINDS = [
     Kind('check', ['turned'], check_far, 'end to end', hostile=True),
     Kind('hull', ['broom'], hull, f'{inputs.SPIKES} points', hostile=True),
     Kind('round', ['broom'], closed_round, f'{inputs.SPIKES} points', hostile=True),
-    Kind('guards', ['skyline', 'saw', 'fan'], guards, hostile=True),
+    Kind('guards', ['skyline', 'saw', 'fan', 'hourglass'], guards, hostile=True),
     Kind('pair', ['spiral'], pair_far, hostile=True),
     Kind('sights', ['convex'], sights_again, hostile=True),
 ]
