@@ -19,23 +19,23 @@ pub(crate) struct Cover {
 }
 
 impl Cover {
-    // No point; the slab goes the way from one point to another, which are so far apart in x and y together.
-    pub fn along<L: Ledger>(from: &Pt, to: &Pt, length: u64, steps: &mut Steps<L>) -> Cover
+    // No point; the slab goes the way from one point to another.
+    pub fn along<L: Ledger>(from: &Pt, to: &Pt, weight: u64, steps: &mut Steps<L>) -> Cover
         ensures { steps.new ≡ steps.old + 128 }
     {
         Cover {
             bounds: BoundingBox::empty(),
-            slab: Slab::along(from, to, length, steps),
+            slab: Slab::along(from, to, weight, steps),
         }
     }
 
-    // No point; the slab goes the way of that of the two that was made of the longer edge.
-    pub fn longer<L: Ledger>(&self, other: &Cover, steps: &mut Steps<L>) -> Cover
+    // No point; the slab goes the way of that of the two with the greater weight.
+    pub fn heavier<L: Ledger>(&self, other: &Cover, steps: &mut Steps<L>) -> Cover
         ensures { steps.new ≡ steps.old + 128 }
     {
         Cover {
             bounds: BoundingBox::empty(),
-            slab: self.slab.longer(&other.slab).line(steps),
+            slab: self.slab.heavier(&other.slab).line(steps),
         }
     }
 

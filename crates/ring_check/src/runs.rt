@@ -17,6 +17,9 @@ use std::sync::ledger::Ledger;
 /// How many edges a run has at most that joins no others: their ends are sixteen vertices.
 pub const RUN: usize = 15;
 
+// The slab round the edges that go a way is along another edge of the run, where that is more than so many times as long.
+const FAR_LONGER: u64 = 8;
+
 // The edges from `first` to before `end`, each in the cover of those that go its way. Where a list winds round and round,
 // these boxes are slim, and one box round all of the edges would not be; and where edges lie side by side, these slabs are.
 #[derive(Clone, Copy)]
@@ -133,10 +136,10 @@ impl Run {
         let run = Run {
             first: self.first,
             end: self.first,
-            eastward: self.eastward.longer(&next.eastward, steps),
-            northward: self.northward.longer(&next.northward, steps),
-            westward: self.westward.longer(&next.westward, steps),
-            southward: self.southward.longer(&next.southward, steps),
+            eastward: self.eastward.heavier(&next.eastward, steps),
+            northward: self.northward.heavier(&next.northward, steps),
+            westward: self.westward.heavier(&next.westward, steps),
+            southward: self.southward.heavier(&next.southward, steps),
         };
         run.with_edges(points, points.len().min(next.end), steps)
     }
@@ -165,8 +168,8 @@ impl Run {
     }
 }
 
-// An empty cover whose slab is along the longest of the edges from `first` to before `end` that go a way. Only the time rests
-// on which edges they are.
+// An empty cover whose slab is along the longest of the edges from `first` to before `end` that go a way, or along another one that is far
+// longer: short edges between long ones that lie side by side are slim along these. Only the time rests on which edges they are.
 fn cover_along<L: Ledger>(
     points: &[Pt],
     first: usize,
@@ -182,9 +185,14 @@ fn cover_along<L: Ledger>(
     let mut most = 0;
     for e in first..end {
         let length = length_of(points, e, steps);
-        if most < length && way_of(points, e, steps) == way {
-            most = length;
-            cover = Cover::along(&corner(points, e), &corner(points, e + 1), length, steps);
+        let weight = if way_of(points, e, steps) == way {
+            length.saturating_mul(FAR_LONGER)
+        } else {
+            length
+        };
+        if most < weight {
+            most = weight;
+            cover = Cover::along(&corner(points, e), &corner(points, e + 1), weight, steps);
         }
     }
     cover

@@ -2,12 +2,13 @@ ghost use Rattle.std.specs.Prelude.{◌<◌, ◌^◌, unsigned_abs};
 
 use exact_plane::Pt;
 
-// The points between two lines that go the way from one point to another, by their heights over that way.
+// The points between two lines that go the way from one point to another, by their heights over that way. Of two slabs the way of
+// that with the greater weight is kept.
 #[derive(Clone, Copy)]
 pub(crate) struct Slab {
     pub from: Pt,
     pub to: Pt,
-    pub length: u64,
+    pub weight: u64,
     pub least: i64,
     pub greatest: i64,
     ghost least_fits: { unsigned_abs least < 2 ^ 48 },

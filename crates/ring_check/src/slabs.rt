@@ -10,23 +10,23 @@ use exact_plane::{Pt, Steps};
 use std::sync::ledger::Ledger;
 
 impl Slab {
-    // The line through these two points, which are so far apart in x and y together.
-    pub fn along<L: Ledger>(from: &Pt, to: &Pt, length: u64, steps: &mut Steps<L>) -> Slab
+    // The line through these two points.
+    pub fn along<L: Ledger>(from: &Pt, to: &Pt, weight: u64, steps: &mut Steps<L>) -> Slab
         ensures { steps.new ≡ steps.old + 128 }
     {
         let height = swept(to, from, steps);
         Slab {
             from: *from,
             to: *to,
-            length,
+            weight,
             least: height,
             greatest: height,
         }
     }
 
-    // That of the two whose points are farther apart.
-    pub fn longer(&self, other: &Slab) -> Slab {
-        if self.length < other.length {
+    // That of the two with the greater weight.
+    pub fn heavier(&self, other: &Slab) -> Slab {
+        if self.weight < other.weight {
             *other
         } else {
             *self
@@ -37,7 +37,7 @@ impl Slab {
     pub fn line<L: Ledger>(&self, steps: &mut Steps<L>) -> Slab
         ensures { steps.new ≡ steps.old + 128 }
     {
-        Slab::along(&self.from, &self.to, self.length, steps)
+        Slab::along(&self.from, &self.to, self.weight, steps)
     }
 
     // The slab round this one and a point.
@@ -50,7 +50,7 @@ impl Slab {
         Slab {
             from: self.from,
             to: self.to,
-            length: self.length,
+            weight: self.weight,
             least: lesser(self.least, height),
             greatest: greater(self.greatest, height),
         }
