@@ -30,15 +30,37 @@ def star(n: int) -> Ring:
     return [(round(r * math.cos(t)), round(r * math.sin(t))) for t in turns for r in [draw.randint(400_000, 990_000)]]
 
 
-def skyline(n: int) -> Ring:
+def houses(n: int, width: int) -> Ring:
     """A ring of upright and level edges: houses of random heights, wall to wall."""
     draw = random.Random(n)
     roof: Ring = []
     height = 0
     for i in reversed(range(n // 2 - 1)):
         height = draw.choice([h for h in range(1000, 900_000, 1000) if h != height])
-        roof += [(400 * (i + 1), height), (400 * i, height)]
+        roof += [(width * (i + 1), height), (width * i, height)]
     return [(0, 0), (roof[0][0], 0)] + roof
+
+
+def skyline(n: int) -> Ring:
+    """Wide houses."""
+    return houses(n, 400)
+
+
+def slope(n: int) -> Ring:
+    """Narrow houses, turned by an eighth, of which the last ones clash: the edges n - 5 and n - 3 are the least pair."""
+    ring = houses(n, 40)
+    ring[-4:-2] = [(40, 500), (80, 500)]
+    return [(x - y, x + y) for x, y in ring]
+
+
+def wall(n: int) -> Ring:
+    """On one side of a way the tips of a quarter of the vertices touch it, on the other long teeth go down beside it; all that slanted."""
+    tips, height = n // 4, n + 8
+    teeth = (n - 2 * tips - 4) // 2
+    left = [point for k in reversed(range(tips)) for point in ((-10, 4 * k + 6), (0, 4 * k + 4))]
+    down = [point for k in reversed(range(teeth)) for point in ((4 * k + 10, height), (4 * k + 8, 1))]
+    upright = [(-10, 0), (4 * teeth + 10, 0)] + down + [(5, height), (-10, height)] + left
+    return [(3 * x + y, x + 2 * y) for x, y in upright]
 
 
 def spiral(n: int) -> Ring:
@@ -245,6 +267,11 @@ def way_across_convex(n: int) -> Ring:
     return [ring[n // 4], ring[3 * n // 4]]
 
 
+def way_along_wall(n: int) -> Ring:
+    """Past the tips that touch it."""
+    return [(1, 2), (n + 7, 2 * (n + 7))]
+
+
 def way_along_arch(n: int) -> Ring:
     """The taut chain past the tips of the teeth of the arch. An even number of teeth."""
     up = short_vectors((n - 4) // 4)
@@ -294,7 +321,7 @@ def turned(n: int) -> Ring:
 Shape = Callable[[int], Ring]
 SHAPES: Dict[str, Shape] = {shape.__name__: shape for shape in (comb, star, maze, spiral)}
 SIX_SHAPES: Dict[str, Shape] = SHAPES | {shape.__name__: shape for shape in (convex, moon)}
-MORE_SHAPES: Dict[str, Shape] = SIX_SHAPES | {shape.__name__: shape for shape in (skyline, saw, fan, arch, hourglass, zigzag, turned, broom)}
+MORE_SHAPES: Dict[str, Shape] = SIX_SHAPES | {shape.__name__: shape for shape in (skyline, saw, fan, arch, hourglass, zigzag, slope, wall, turned, broom)}
 WAYS: Dict[str, Shape] = {'comb': way_along_comb, 'convex': way_across_convex, 'saw': way_past_teeth}
 
 

@@ -155,7 +155,8 @@ def polygon(job: Job, ask: Ask) -> None:
 
 def refused(job: Job, ask: Ask) -> None:
     job.before = job.head
-    repeat(job, record('polygon', job.ring), ask, f'bad,clash,{job.size - 6},{job.size - 4}\n')
+    first = job.size - (6 if job.shape == 'zigzag' else 5)
+    repeat(job, record('polygon', job.ring), ask, f'bad,clash,{first},{first + 2}\n')
 
 
 def accept(job: Job, ask: Ask) -> None:
@@ -350,7 +351,7 @@ KINDS = [
     Kind('guards', SIX_SHAPES, guards),
     Kind('pair', SIX_SHAPES, pair),
     Kind('sights', SIX_SHAPES, sights),
-    Kind('polygon', ['zigzag'], refused, 'refused', hostile=True),
+    Kind('polygon', ['zigzag', 'slope'], refused, 'refused', hostile=True),
     Kind('inside', ['maze'], inside_again, hostile=True),
     Kind('see', ['convex'], see_all, hostile=True),
     Kind('kernel', ['convex'], kernel, hostile=True),
@@ -358,6 +359,7 @@ KINDS = [
     Kind('reach', ['spiral'], reach_far, hostile=True),
     Kind('path', ['spiral'], path_far, hostile=True),
     Kind('check', ['saw'], check_way(inputs.way_through_saw), 'two points', hostile=True),
+    Kind('check', ['wall'], check_way(inputs.way_along_wall), 'two points', hostile=True),
     Kind('check', ['arch'], check_way(inputs.way_along_arch), 'each tip', hostile=True),
     Kind('check', ['turned'], check_far, 'end to end', hostile=True),
     Kind('hull', ['broom'], hull, f'{inputs.SPIKES} points', hostile=True),
