@@ -1,5 +1,5 @@
 -- Edges to one side of a point: it is on none of them, and whether they are crossed is told by their ends.
-use Rattle.std.proofs.Common.{◌≡◌, ◌⊎◌, inl, inr, refl, sym, ap, subst, ◌∙◌, ℕ, ◌+◌, ◌-◌, ◌<◌, ◌≤◌, ◌↔◌, IsTrue, zero, suc, [], ◌∷◌, ℤ, pos, negsuc, ◌+ℤ◌, ◌-ℤ◌, ◌*ℤ◌, ◌<ℤ◌, Bool, true, false, List, length, take, drop, get_or, arith}
+use Rattle.std.proofs.Common.{◌≡◌, ◌⊎◌, inl, inr, refl, sym, ap, subst, ◌∙◌, ℕ, ◌+◌, ◌-◌, ◌<◌, ◌≤◌, ◌↔◌, IsTrue, zero, suc, [], ◌∷◌, ℤ, pos, ◌-ℤ◌, ◌*ℤ◌, ◌<ℤ◌, Bool, true, false, List, length, take, drop, get_or, arith}
 use Rattle.std.proofs.lemmas.Int.{ints}
 use Rattle.std.proofs.lemmas.List.{get_or-drop, get_or-take, length-drop, length-take-le}
 use Rattle.std.specs.Bool.{beq}
@@ -23,16 +23,19 @@ use Rattle.ring_check.specs.Boxes.{EnclosesEdge}
 use Rattle.inside_test.proofs.ApartEdges.{not_on_above, not_on_below}
 use Rattle.inside_test.proofs.CrossedEdges.{crossed_backward, crossed_from_left, crossed_from_right, not_crossed_unpassed}
 use Rattle.inside_test.proofs.Odd.{odd_step}
-use Rattle.inside_test.proofs.Tilted.{overlap_of_tilted}
-use Rattle.inside_test.proofs.Passed.{left_of_sides, left_side, less_difference, less_sum, more_difference, more_sum, not_falling, right_of_sides, right_side, side}
+use Rattle.inside_test.proofs.BesideSlabs.{ends_beyond, no_meet_beside, no_meet_beyond}
+use Rattle.inside_test.proofs.Passed.{left_of_sides, left_side, more_side, not_falling, right_of_sides, right_side, side}
 use Rattle.inside_test.proofs.Passed.{test_fails_high, test_fails_low}
 use Rattle.inside_test.specs.Apart.{MissesEdges}
 use Rattle.inside_test.specs.Block.{IsBoxMissed, IsBoxPassed, IsBoxRight, OfAllEnclosed}
+use Rattle.inside_test.specs.Bundle.{IsBundlePassed}
 use Rattle.inside_test.specs.Meeting.{rises}
 use Rattle.inside_test.specs.Odd.{IsOddOver, OddSoFar}
+use Rattle.inside_test.specs.Probe.{IsApartBundle, IsProbe}
 use Rattle.inside_test.specs.Runs.{IsBundled, IsBoxed, IsEachBundle}
-use Rattle.inside_test.specs.Tilted.{AreEnclosed}
+use Rattle.inside_test.specs.Slab.{at}
 use Rattle.inside_test.specs.declared.bundle.Bundle.{Bundle}
+use Rattle.inside_test.specs.declared.probe.Probe.{Probe}
 use Rattle.inside_test.specs.declared.runs.Run.{Run}
 
 -- whether one of two numbers is above a third, and the other is not
@@ -77,30 +80,30 @@ module _ (a b : Point) (p : Triple) (at_p : IsPoint p) where
         (test_fails_high (b.y *ℤ p.W) (a.y *ℤ p.W) p.Y (omega (arith, ints, first)));
   }
 
-  module _ (c : ℤ) where
+  module _ (across up : ℤ) (upward : pos 0 <ℤ up) where
     -- a functional that is more at the vertices to one side of a point than at the point, which it is 0 at,
-    past_is : (v : Point) → linear (pos 0 -ℤ p.W) (pos 0 -ℤ c *ℤ p.W) (p.X +ℤ c *ℤ p.Y) (whole v) ≡ pos 0 -ℤ side c v p
+    past_is : (v : Point) → linear (pos 0 -ℤ up *ℤ p.W) (across *ℤ p.W) (up *ℤ p.X -ℤ across *ℤ p.Y) (whole v) ≡ pos 0 -ℤ side across up v p
     past_is v =
-        same_value ((lit (pos 0) ⊖ var 4) ⊗ var 0 ⊕ (lit (pos 0) ⊖ var 5 ⊗ var 4) ⊗ var 1 ⊕ (var 2 ⊕ var 5 ⊗ var 3) ⊗ lit (pos 1))
-        (lit (pos 0) ⊖ ((var 0 ⊕ var 5 ⊗ var 1) ⊗ var 4 ⊖ (var 2 ⊕ var 5 ⊗ var 3)))
-        (v.x ∷ v.y ∷ p.X ∷ p.Y ∷ p.W ∷ c ∷ []) refl
+        same_value ((lit (pos 0) ⊖ var 6 ⊗ var 4) ⊗ var 0 ⊕ (var 5 ⊗ var 4) ⊗ var 1 ⊕ (var 6 ⊗ var 2 ⊖ var 5 ⊗ var 3) ⊗ lit (pos 1))
+        (lit (pos 0) ⊖ ((var 6 ⊗ var 0 ⊖ var 5 ⊗ var 1) ⊗ var 4 ⊖ (var 6 ⊗ var 2 ⊖ var 5 ⊗ var 3)))
+        (v.x ∷ v.y ∷ p.X ∷ p.Y ∷ p.W ∷ across ∷ up ∷ []) refl
 
-    past_here : linear (pos 0 -ℤ p.W) (pos 0 -ℤ c *ℤ p.W) (p.X +ℤ c *ℤ p.Y) p ≡ pos 0
+    past_here : linear (pos 0 -ℤ up *ℤ p.W) (across *ℤ p.W) (up *ℤ p.X -ℤ across *ℤ p.Y) p ≡ pos 0
     past_here =
-        same_value ((lit (pos 0) ⊖ var 2) ⊗ var 0 ⊕ (lit (pos 0) ⊖ var 3 ⊗ var 2) ⊗ var 1 ⊕ (var 0 ⊕ var 3 ⊗ var 1) ⊗ var 2) (lit (pos 0))
-        (p.X ∷ p.Y ∷ p.W ∷ c ∷ []) refl
+        same_value ((lit (pos 0) ⊖ var 4 ⊗ var 2) ⊗ var 0 ⊕ (var 3 ⊗ var 2) ⊗ var 1 ⊕ (var 4 ⊗ var 0 ⊖ var 3 ⊗ var 1) ⊗ var 2) (lit (pos 0))
+        (p.X ∷ p.Y ∷ p.W ∷ across ∷ up ∷ []) refl
 
     -- and one that is more at those to the other
-    before_is : (v : Point) → linear p.W (c *ℤ p.W) (pos 0 -ℤ (p.X +ℤ c *ℤ p.Y)) (whole v) ≡ side c v p
+    before_is : (v : Point) → linear (up *ℤ p.W) (pos 0 -ℤ across *ℤ p.W) (pos 0 -ℤ (up *ℤ p.X -ℤ across *ℤ p.Y)) (whole v) ≡ side across up v p
     before_is v =
-        same_value (var 4 ⊗ var 0 ⊕ (var 5 ⊗ var 4) ⊗ var 1 ⊕ (lit (pos 0) ⊖ (var 2 ⊕ var 5 ⊗ var 3)) ⊗ lit (pos 1))
-        ((var 0 ⊕ var 5 ⊗ var 1) ⊗ var 4 ⊖ (var 2 ⊕ var 5 ⊗ var 3))
-        (v.x ∷ v.y ∷ p.X ∷ p.Y ∷ p.W ∷ c ∷ []) refl
+        same_value ((var 6 ⊗ var 4) ⊗ var 0 ⊕ (lit (pos 0) ⊖ var 5 ⊗ var 4) ⊗ var 1 ⊕ (lit (pos 0) ⊖ (var 6 ⊗ var 2 ⊖ var 5 ⊗ var 3)) ⊗ lit (pos 1))
+        ((var 6 ⊗ var 0 ⊖ var 5 ⊗ var 1) ⊗ var 4 ⊖ (var 6 ⊗ var 2 ⊖ var 5 ⊗ var 3))
+        (v.x ∷ v.y ∷ p.X ∷ p.Y ∷ p.W ∷ across ∷ up ∷ []) refl
 
-    before_here : linear p.W (c *ℤ p.W) (pos 0 -ℤ (p.X +ℤ c *ℤ p.Y)) p ≡ pos 0
+    before_here : linear (up *ℤ p.W) (pos 0 -ℤ across *ℤ p.W) (pos 0 -ℤ (up *ℤ p.X -ℤ across *ℤ p.Y)) p ≡ pos 0
     before_here =
-        same_value (var 2 ⊗ var 0 ⊕ (var 3 ⊗ var 2) ⊗ var 1 ⊕ (lit (pos 0) ⊖ (var 0 ⊕ var 3 ⊗ var 1)) ⊗ var 2) (lit (pos 0))
-        (p.X ∷ p.Y ∷ p.W ∷ c ∷ []) refl
+        same_value ((var 4 ⊗ var 2) ⊗ var 0 ⊕ (lit (pos 0) ⊖ var 3 ⊗ var 2) ⊗ var 1 ⊕ (lit (pos 0) ⊖ (var 4 ⊗ var 0 ⊖ var 3 ⊗ var 1)) ⊗ var 2) (lit (pos 0))
+        (p.X ∷ p.Y ∷ p.W ∷ across ∷ up ∷ []) refl
 
     -- so the point is on no edge where one is more at both ends
     off_edge : (α β γ : ℤ) → linear α β γ p ≡ pos 0 → pos 0 <ℤ linear α β γ (whole a) → pos 0 <ℤ linear α β γ (whole b)
@@ -109,31 +112,31 @@ module _ (a b : Point) (p : Triple) (at_p : IsPoint p) where
         no_meet_across (whole a) (whole b) p p (whole_is_point a) (whole_is_point b) at_p at_p α β γ first last (omega (arith, ints, here)) (omega (arith, ints, here))
         (record { point = p; rational = at_p; on_first = on; on_second = on_first_end p p })
 
-    -- left of it along an axis,
-    pub passed_past : side c a p <ℤ pos 0 → side c b p <ℤ pos 0 → IsPassed a b p false
+    -- left of it along a way that goes upward,
+    pub passed_past : side across up a p <ℤ pos 0 → side across up b p <ℤ pos 0 → IsPassed a b p false
     passed_past first last = record {
       off = off_edge _ _ _ past_here (omega (arith, ints, past_is a, first)) (omega (arith, ints, past_is b, last));
       is = elim (is_or_not (rises a b p)) [
-        | inl up ↦ crossed_from_right (edge a b) p (sym (right_of_sides a b p at_p up c first last)) ∙ not_falling (a.y *ℤ p.W) (b.y *ℤ p.W) p.Y up
+        | inl rising ↦ crossed_from_right (edge a b) p (sym (right_of_sides a b p at_p rising across up upward first last)) ∙ not_falling (a.y *ℤ p.W) (b.y *ℤ p.W) p.Y rising
         | inr not_up ↦ elim (is_or_not (rises b a p)) [
           | inl down ↦
-              sym (crossed_backward a b p) ∙ crossed_from_right (edge b a) p (sym (right_of_sides b a p at_p down c last first)) ∙ not_falling (b.y *ℤ p.W) (a.y *ℤ p.W) p.Y down
+              sym (crossed_backward a b p) ∙ crossed_from_right (edge b a) p (sym (right_of_sides b a p at_p down across up upward last first)) ∙ not_falling (b.y *ℤ p.W) (a.y *ℤ p.W) p.Y down
           | inr not_down ↦ not_crossed_unpassed (edge a b) p not_up not_down
         ]
       ];
     }
 
     -- and right of it
-    pub passed_before : pos 0 <ℤ side c a p → pos 0 <ℤ side c b p
+    pub passed_before : pos 0 <ℤ side across up a p → pos 0 <ℤ side across up b p
         → IsPassed a b p (is_between_ends (lt_z p.Y (a.y *ℤ p.W)) (lt_z p.Y (b.y *ℤ p.W)))
     passed_before first last = record {
       off = off_edge _ _ _ before_here (omega (arith, ints, before_is a, first)) (omega (arith, ints, before_is b, last));
       is = elim (is_or_not (rises a b p)) [
-        | inl up ↦
-            crossed_from_left (edge a b) p (sym (left_of_sides a b p at_p up c first last)) ∙ up ∙ sym (ends_of_rise (a.y *ℤ p.W) (b.y *ℤ p.W) p.Y up)
+        | inl rising ↦
+            crossed_from_left (edge a b) p (sym (left_of_sides a b p at_p rising across up upward first last)) ∙ rising ∙ sym (ends_of_rise (a.y *ℤ p.W) (b.y *ℤ p.W) p.Y rising)
         | inr not_up ↦ elim (is_or_not (rises b a p)) [
           | inl down ↦
-              sym (crossed_backward a b p) ∙ crossed_from_left (edge b a) p (sym (left_of_sides b a p at_p down c last first)) ∙ down
+              sym (crossed_backward a b p) ∙ crossed_from_left (edge b a) p (sym (left_of_sides b a p at_p down across up upward last first)) ∙ down
               ∙ sym (ends_of_fall (b.y *ℤ p.W) (a.y *ℤ p.W) p.Y down)
           | inr not_down ↦ not_crossed_unpassed (edge a b) p not_up not_down ∙ sym (ends_beside (a.y *ℤ p.W) (b.y *ℤ p.W) p.Y not_up not_down)
         ]
@@ -142,28 +145,12 @@ module _ (a b : Point) (p : Triple) (at_p : IsPoint p) where
 
   -- left of it,
   pub passed_left : (a.x *ℤ p.W) <ℤ p.X → (b.x *ℤ p.W) <ℤ p.X → IsPassed a b p false
-  passed_left first last = passed_past (pos 0) (left_side a p first) (left_side b p last)
+  passed_left first last = passed_past (pos 0) (pos 1) (omega (arith, ints)) (left_side a p first) (left_side b p last)
 
   -- and right of it
   pub passed_right : p.X <ℤ (a.x *ℤ p.W) → p.X <ℤ (b.x *ℤ p.W)
       → IsPassed a b p (is_between_ends (lt_z p.Y (a.y *ℤ p.W)) (lt_z p.Y (b.y *ℤ p.W)))
-  passed_right first last = passed_before (pos 0) (right_side a p first) (right_side b p last)
-
-  -- so it is where the sums of coordinates are less, or the differences,
-  pub passed_past_sums : ((a.x +ℤ a.y) *ℤ p.W) <ℤ (p.X +ℤ p.Y) → ((b.x +ℤ b.y) *ℤ p.W) <ℤ (p.X +ℤ p.Y) → IsPassed a b p false
-  passed_past_sums first last = passed_past (pos 1) (less_sum a p first) (less_sum b p last)
-
-  pub passed_past_differences : ((a.x -ℤ a.y) *ℤ p.W) <ℤ (p.X -ℤ p.Y) → ((b.x -ℤ b.y) *ℤ p.W) <ℤ (p.X -ℤ p.Y) → IsPassed a b p false
-  passed_past_differences first last = passed_past (negsuc 0) (less_difference a p first) (less_difference b p last)
-
-  -- and greater
-  pub passed_before_sums : (p.X +ℤ p.Y) <ℤ ((a.x +ℤ a.y) *ℤ p.W) → (p.X +ℤ p.Y) <ℤ ((b.x +ℤ b.y) *ℤ p.W)
-      → IsPassed a b p (is_between_ends (lt_z p.Y (a.y *ℤ p.W)) (lt_z p.Y (b.y *ℤ p.W)))
-  passed_before_sums first last = passed_before (pos 1) (more_sum a p first) (more_sum b p last)
-
-  pub passed_before_differences : (p.X -ℤ p.Y) <ℤ ((a.x -ℤ a.y) *ℤ p.W) → (p.X -ℤ p.Y) <ℤ ((b.x -ℤ b.y) *ℤ p.W)
-      → IsPassed a b p (is_between_ends (lt_z p.Y (a.y *ℤ p.W)) (lt_z p.Y (b.y *ℤ p.W)))
-  passed_before_differences first last = passed_before (negsuc 0) (more_difference a p first) (more_difference b p last)
+  passed_right first last = passed_before (pos 0) (pos 1) (omega (arith, ints)) (right_side a p first) (right_side b p last)
 
 -- ---- edges of a ring that follow one another
 
@@ -295,27 +282,35 @@ in_some_bundle ring run P Q e each of boxed = elim boxed [
   | inr (inr (inr h)) ↦ of run.southward h each.southward
 ]
 
--- a bundle has a box that shares no point with one of two
-abbrev pub IsApartBundle : BoundingBox → BoundingBox → Bundle → Type 0
-IsApartBundle around tilt b = (¬ (Overlap around b.around)) ⊎ (¬ (Overlap tilt b.tilted))
+-- an edge in a bundle is in its box
+edge_in_box : (ring : List Point) (b : Bundle) (e : ℕ) → IsBundled ring b e → EnclosesEdge ring b.around e
+edge_in_box ring b e h = record { from_bounds = h.from.bounds; to_bounds = h.to.bounds; from = h.from.box; to = h.to.box }
+
+-- so an edge is where its bundle is to one side of the point
+passed_in_bundle : (ring : List Point) (p : Triple) (at_p : IsPoint p) (b : Bundle) (k : ℕ) → IsBundled ring b k → IsBundlePassed b p
+    → IsPassed (vertex ring k) (vertex ring (k + 1)) p (is_between_ends (is_above ring p at_p k) (is_above ring p at_p (k + 1)))
+passed_in_bundle ring p at_p b k h (inl box) = passed_in_passed ring p at_p b.around k (edge_in_box ring b k h) box
+passed_in_bundle ring p at_p b k h (inr way) =
+    passed_before (vertex ring k) (vertex ring (k + 1)) p at_p way.across way.up way.rises (more_side _ _ _ refl (way.all _ h.from)) (more_side _ _ _ refl (way.all _ h.to))
 
 module _ (ring : List Point) (run : Run) (boxed : (e : ℕ) → run.first ≤ e → e < run.end → IsBoxed ring run e) where
-  -- their ends tell whether they are crossed where each box is above the point, below it or right of it
-  pub each_passed : (p : Triple) (at_p : IsPoint p) → IsEachBundle run (λ b. IsBoxPassed b.around p)
+  -- their ends tell whether they are crossed where each box is above the point, below it or right of it, or the slab right of it
+  pub each_passed : (p : Triple) (at_p : IsPoint p) → IsEachBundle run (λ b. IsBundlePassed b p)
       → (k : ℕ) → run.first ≤ k → k < run.end
       → IsPassed (vertex ring k) (vertex ring (k + 1)) p (is_between_ends (is_above ring p at_p k) (is_above ring p at_p (k + 1)))
   each_passed p at_p passed k from below =
-      in_some_bundle ring run (λ b. IsBoxPassed b.around p) _ k passed (λ b h by. passed_in_passed ring p at_p b.around k h.box by) (boxed k from below)
+      in_some_bundle ring run (λ b. IsBundlePassed b p) _ k passed (λ b h by. passed_in_bundle ring p at_p b k h by) (boxed k from below)
 
-  -- a segment in two boxes of which one shares no point with theirs meets none of them
-  pub each_apart : (p q : Point) (around tilt : BoundingBox) → AreEnclosed around tilt p q
-      → IsEachBundle run (IsApartBundle around tilt) → MissesEdges ring run.first run.end p q
-  each_apart p q around tilt at apart k from below meet =
-      in_some_bundle ring run (IsApartBundle around tilt) _ k apart
+  -- a segment meets none of them where each bundle is apart from it
+  pub each_apart : (p q : Point) (probe : Probe) → IsProbe probe p q → IsEachBundle run (IsApartBundle probe) → MissesEdges ring run.first run.end p q
+  each_apart p q probe is apart k from below meet =
+      in_some_bundle ring run (IsApartBundle probe) _ k apart
       (λ b h none. elim none [
-        | inl level ↦ level (overlap_of_meeting around b.around p q (vertex ring k) (vertex ring (k + 1)) at.first at.last h.box.from h.box.to meet)
-        | inr slanted ↦
-            slanted (overlap_of_tilted tilt b.tilted p q (vertex ring k) (vertex ring (k + 1)) at.first_tilted at.last_tilted h.from_tilted h.to_tilted meet)
+        | inl off ↦
+            off (overlap_of_meeting probe.around b.around p q (vertex ring k) (vertex ring (k + 1)) is.first_in_box is.last_in_box h.from.box h.to.box meet)
+        | inr (inl beside) ↦ no_meet_beside probe p q is b.around (vertex ring k) (vertex ring (k + 1)) beside h.from.box h.to.box meet
+        | inr (inr beyond) ↦
+            no_meet_beyond b.slab p q (vertex ring k) (vertex ring (k + 1)) (ends_beyond b.slab (at probe.first) (at probe.last) p q is.first is.last beyond) h.from.slab h.to.slab meet
       ]) (boxed k from below)
 
 -- ---- a block of edges whose ends are in a box

@@ -4,14 +4,17 @@ mod CrossedEdges
 mod Heights
 mod Levels
 mod Meetings
+mod Multiples
 mod Adjacent
 mod Neighbours
 mod Odd
 mod Passed
 pub mod Passing
 mod PointLists
+mod ProbeNumbers
 mod Sizes
+mod SlabNumbers
+mod BesideSlabs
 mod Sorting
-mod Tilted
 mod Told
 mod Touched

@@ -7,15 +7,18 @@ use Rattle.std.specs.Int.Signed.{lt_z}
 use Rattle.std.specs.Prelude.{◌≤ℤ◌, not}
 use Rattle.plane.specs.Point.{IsPoint, Point, Triple}
 use Rattle.rings.specs.Ring.{vertex}
-use Rattle.inside_test.proofs.Blocks.{IsPassed, ends_below, is_between_ends, passed_above, passed_before_differences, passed_before_sums}
-use Rattle.inside_test.proofs.Blocks.{passed_below, passed_left, passed_past_differences, passed_past_sums, passed_right}
+use Rattle.inside_test.proofs.Blocks.{IsPassed, ends_below, is_between_ends, passed_above, passed_before, passed_below, passed_left, passed_past, passed_right}
 use Rattle.inside_test.proofs.Odd.{not_other, over_both, over_more, over_none}
-use Rattle.inside_test.specs.Bundle.{CrossesAll, CrossesNone, IsBundleMissed, IsBundleOf, IsBundleOfBoth, IsBundleRight, IsTold, IsWider}
-use Rattle.inside_test.specs.Odd.{IsOddOver}
+use Rattle.inside_test.proofs.Passed.{less_side, more_side}
+use Rattle.inside_test.specs.Bundle.{CrossesAll, CrossesNone, HasOneMore, IsBundleMissed, IsInBundle, IsBundleOf, IsBundleOfBoth, IsBundleRight, IsTold, IsWider}
+use Rattle.inside_test.specs.Level.{AreLevels}
+use Rattle.inside_test.specs.Odd.{IsOddAhead, IsOddOver}
 use Rattle.inside_test.specs.Runs.{AllTell, IsBundled, IsBoxed, IsRunOf}
-use Rattle.inside_test.specs.Tilted.{tilted}
+use Rattle.inside_test.specs.Slab.{at}
 use Rattle.inside_test.specs.declared.bundle.Bundle.{Bundle}
+use Rattle.inside_test.specs.declared.level.Levels.{Levels}
 use Rattle.inside_test.specs.declared.runs.Run.{Run}
+use Rattle.inside_test.specs.declared.stretch.Place.{Place}
 
 -- whether two flags differ
 abbrev pub differ : Bool → Bool → Bool
@@ -33,23 +36,23 @@ passes_down a b y h k = grind (arith, ints)
 module _ (b : Bundle) (u v : Point) (is : IsBundleOf b u v) (p : Triple) (at_p : IsPoint p) where
   -- an edge in a box that the ray misses is not crossed,
   edge_missed : IsBundleMissed b p → IsPassed u v p false
-  edge_missed (inl (inl (inl above))) = passed_above u v p at_p (above u is.first_bounds is.first) (above v is.last_bounds is.last)
-  edge_missed (inl (inl (inr below))) = passed_below u v p at_p (below u is.first_bounds is.first) (below v is.last_bounds is.last)
-  edge_missed (inl (inr left)) = passed_left u v p at_p (left u is.first_bounds is.first) (left v is.last_bounds is.last)
-  edge_missed (inr (inl less)) = passed_past_sums u v p at_p (less u is.first_bounds is.first_tilted) (less v is.last_bounds is.last_tilted)
-  edge_missed (inr (inr less)) = passed_past_differences u v p at_p (less u is.first_bounds is.first_tilted) (less v is.last_bounds is.last_tilted)
+  edge_missed (inl (inl (inl above))) = passed_above u v p at_p (above u is.first.bounds is.first.box) (above v is.last.bounds is.last.box)
+  edge_missed (inl (inl (inr below))) = passed_below u v p at_p (below u is.first.bounds is.first.box) (below v is.last.bounds is.last.box)
+  edge_missed (inl (inr left)) = passed_left u v p at_p (left u is.first.bounds is.first.box) (left v is.last.bounds is.last.box)
+  edge_missed (inr way) =
+      passed_past u v p at_p way.across way.up way.rises (less_side _ _ _ refl (way.all u is.first)) (less_side _ _ _ refl (way.all v is.last))
 
   -- one right of a point is where its ends are on both sides of the height:
   edge_right : IsBundleRight b p → IsPassed u v p (is_between_ends (lt_z p.Y (u.y *ℤ p.W)) (lt_z p.Y (v.y *ℤ p.W)))
-  edge_right (inl right) = passed_right u v p at_p (right u is.first_bounds is.first) (right v is.last_bounds is.last)
-  edge_right (inr (inl more)) = passed_before_sums u v p at_p (more u is.first_bounds is.first_tilted) (more v is.last_bounds is.last_tilted)
-  edge_right (inr (inr more)) = passed_before_differences u v p at_p (more u is.first_bounds is.first_tilted) (more v is.last_bounds is.last_tilted)
+  edge_right (inl right) = passed_right u v p at_p (right u is.first.bounds is.first.box) (right v is.last.bounds is.last.box)
+  edge_right (inr way) =
+      passed_before u v p at_p way.across way.up way.rises (more_side _ _ _ refl (way.all u is.first)) (more_side _ _ _ refl (way.all v is.last))
 
   -- not, where both are at most at it,
   edge_below : CrossesNone b p → IsPassed u v p false
   edge_below none =
       subst (IsPassed u v p)
-      (ends_below (u.y *ℤ p.W) (v.y *ℤ p.W) p.Y (none.above u is.first_bounds is.first) (none.above v is.last_bounds is.last))
+      (ends_below (u.y *ℤ p.W) (v.y *ℤ p.W) p.Y (none.above u is.first.bounds is.first.box) (none.above v is.last.bounds is.last.box))
       (edge_right none.right)
 
   -- and so where it passes the height
@@ -57,8 +60,8 @@ module _ (b : Bundle) (u v : Point) (is : IsBundleOf b u v) (p : Triple) (at_p :
   edge_beside beside =
       subst (IsPassed u v p)
       (elim is.heights [
-        | inl up ↦ passes_up (u.y *ℤ p.W) (v.y *ℤ p.W) p.Y (beside.low u.y is.first_bounds.y_in_limit up.0) (beside.high v.y is.last_bounds.y_in_limit up.1)
-        | inr down ↦ passes_down (u.y *ℤ p.W) (v.y *ℤ p.W) p.Y (beside.low v.y is.last_bounds.y_in_limit down.0) (beside.high u.y is.first_bounds.y_in_limit down.1)
+        | inl up ↦ passes_up (u.y *ℤ p.W) (v.y *ℤ p.W) p.Y (beside.low u.y is.first.bounds.y_in_limit up.0) (beside.high v.y is.last.bounds.y_in_limit up.1)
+        | inr down ↦ passes_down (u.y *ℤ p.W) (v.y *ℤ p.W) p.Y (beside.low v.y is.last.bounds.y_in_limit down.0) (beside.high u.y is.first.bounds.y_in_limit down.1)
       ])
       (edge_right beside.right)
 
@@ -73,6 +76,42 @@ pub even_told : (b : Bundle) (p : Triple) (odd : Bool) → b.is_odd ≡ false �
 even_told b p odd even (inl missed) = missed.1
 even_told b p odd even (inr beside) = beside.1 ∙ even
 
+-- the point at a place, by its coordinates
+pub at_is : (place : Place) (p : Point) → place.x ≡ p.x → place.y ≡ p.y → at place ≡ p
+at_is place p ex ey = λ i. record { x = ex i; y = ey i }
+
+-- a bundle has one more edge, by the points at its ends
+pub one_more_at : (a c : Bundle) (p q u v : Point) → p ≡ u → q ≡ v → HasOneMore a p q c → HasOneMore a u v c
+one_more_at a c p q u v first last more = subst (λ y. HasOneMore a u y c) last (subst (λ x. HasOneMore a x q c) first more)
+
+-- where the bundles of a run tell of each point with some levels, the run does
+pub told_ahead : (ring : List Point) (run : Run) (levels : Levels) (first : ℕ) (odd : Bool) → IsRunOf ring run → run.first ≡ first → first < run.end
+    → ((p : Triple) → AreLevels levels p → AllTell run p odd) → IsOddAhead ring levels first run.end odd
+told_ahead ring run levels first odd is begins later told = record {
+  later = later;
+  within = is.within;
+  over = λ p at rational. subst (λ n. IsOddOver ring n run.end p odd) begins (is.told p odd rational (told p at));
+}
+
+-- a run of the same bundles is one
+pub run_marked : (ring : List Point) (a c : Run) → c.first ≡ a.first → c.end ≡ a.end → c.eastward ≡ a.eastward → c.northward ≡ a.northward
+    → c.westward ≡ a.westward → c.southward ≡ a.southward → IsRunOf ring a → IsRunOf ring c
+run_marked ring a c first end east north west south is = record {
+  within = rw end is.within;
+  boxed = λ e from below. rw (east, north, west, south) (is.boxed e (rw first at from) (rw end at below));
+  told = λ p odd at_p t. rw (first, end) (is.told p odd at_p (record {
+    east = t.east;
+    north = t.north;
+    west = t.west;
+    south = t.south;
+    eastward = rw east at t.eastward;
+    northward = rw north at t.northward;
+    westward = rw west at t.westward;
+    southward = rw south at t.southward;
+    all = t.all;
+  }));
+}
+
 -- ---- two bundles
 
 -- what the two tell, where the third has the edges of both
@@ -83,20 +122,22 @@ pub record AreBothTold (a b : Bundle) (p : Triple) (odd : Bool) : Type 0 where
   pub second_told : IsTold b p second
   pub both : odd ≡ differ first second
 
+-- what is in a bundle is in one that has more
+pub in_wider : (a c : Bundle) → IsWider a c → (v : Point) → IsInBundle a v → IsInBundle c v
+in_wider a c wider v within = record { bounds = within.bounds; box = wider.box v within.box; slab = wider.slab v within }
+
 module _ (a c : Bundle) (wider : IsWider a c) (p : Triple) where
   -- the ray misses a box in another that it misses,
   missed_within : IsBundleMissed c p → IsBundleMissed a p
   missed_within (inl (inl (inl above))) = inl (inl (inl (λ v limits within. above v limits (wider.box v within))))
   missed_within (inl (inl (inr below))) = inl (inl (inr (λ v limits within. below v limits (wider.box v within))))
   missed_within (inl (inr left)) = inl (inr (λ v limits within. left v limits (wider.box v within)))
-  missed_within (inr (inl less)) = inr (inl (λ v limits within. less v limits (wider.tilted (tilted v) within)))
-  missed_within (inr (inr less)) = inr (inr (λ v limits within. less v limits (wider.tilted (tilted v) within)))
+  missed_within (inr way) = inr (record { across = way.across; up = way.up; rises = way.rises; all = λ v within. way.all v (in_wider a c wider v within) })
 
   -- one in another that is right of the point is right of it,
   right_within : IsBundleRight c p → IsBundleRight a p
   right_within (inl right) = inl (λ v limits within. right v limits (wider.box v within))
-  right_within (inr (inl more)) = inr (inl (λ v limits within. more v limits (wider.tilted (tilted v) within)))
-  right_within (inr (inr more)) = inr (inr (λ v limits within. more v limits (wider.tilted (tilted v) within)))
+  right_within (inr way) = inr (record { across = way.across; up = way.up; rises = way.rises; all = λ v within. way.all v (in_wider a c wider v within) })
 
   -- so that none of its edges is crossed where none of more is,
   none_within : IsBundleMissed c p ⊎ CrossesNone c p → IsBundleMissed a p ⊎ CrossesNone a p
@@ -181,16 +222,7 @@ all_told run p east north west south is_east is_north is_west is_south = record 
 
 -- an edge in both boxes of a bundle is in those of a wider one,
 edge_wider : (ring : List Point) (e : ℕ) (x y : Bundle) → IsWider x y → IsBundled ring x e → IsBundled ring y e
-edge_wider ring e x y wider h = record {
-  box = record {
-    from_bounds = h.box.from_bounds;
-    to_bounds = h.box.to_bounds;
-    from = wider.box _ h.box.from;
-    to = wider.box _ h.box.to;
-  };
-  from_tilted = wider.tilted _ h.from_tilted;
-  to_tilted = wider.tilted _ h.to_tilted;
-}
+edge_wider ring e x y wider h = record { from = in_wider x y wider _ h.from; to = in_wider x y wider _ h.to }
 
 -- and in one of four boxes where each is wider
 boxed_wider : (ring : List Point) (a c : Run) (e : ℕ) → IsWider a.eastward c.eastward → IsWider a.northward c.northward
@@ -272,7 +304,7 @@ last_alone false = refl
 
 -- a bundle is in one that has more
 wider_same : (a : Bundle) → IsWider a a
-wider_same a = record { box = λ v within. within; tilted = λ v within. within; low = omega (arith, ints); high = omega (arith, ints) }
+wider_same a = record { box = λ v within. within; slab = λ v within. within.slab; low = omega (arith, ints); high = omega (arith, ints) }
 
 -- the third bundle has those edges of the first two that it should: of the second only where the flag says so
 abbrev IsGrown : Bool → Bundle → Bundle → Bundle → Type 0
@@ -324,11 +356,7 @@ module _ (ring : List Point) (a c : Run) (e : ℕ) (b : Bundle) (in_a : IsRunOf 
           (grown_wider to_west a.westward b c.westward west) (grown_wider to_south a.southward b c.southward south)
           (in_a.boxed k (omega (arith, from, first)) earlier)
       | inr later ↦ subst (IsBoxed ring c) (omega (arith, later, next, below, end))
-          (boxed (record {
-            box = record { from_bounds = is.first_bounds; to_bounds = is.last_bounds; from = is.first; to = is.last };
-            from_tilted = is.first_tilted;
-            to_tilted = is.last_tilted;
-          }))
+          (boxed (record { from = is.first; to = is.last }))
     ];
     told = λ p odd at_p t.
         let x = grown_told to_east a.eastward b c.eastward east p t.east t.eastward in

@@ -1,27 +1,40 @@
 -- Edges of a ring in bundles, by the way that they go, and what a bundle tells of a point. This project's own. No public clause cites this module.
 use Rattle.std.specs.Bool.{beq}
-use Rattle.std.specs.Prelude.{◌≡◌, ◌⊎◌, ◌*ℤ◌, ◌<ℤ◌, ◌≤ℤ◌, ℤ, Bool, true, false, not}
+use Rattle.std.specs.Prelude.{◌≡◌, ◌⊎◌, ◌*ℤ◌, ◌<ℤ◌, ◌≤ℤ◌, ℤ, Bool, pos, true, false, not}
 use Rattle.plane.specs.Point.{IsInBounds, IsInLimit, Point, Triple}
 use Rattle.exact_plane.specs.Boxes.{Encloses}
-use Rattle.inside_test.specs.Block.{IsBoxMissed, IsBoxRight, IsTiltBefore, IsTiltPast, OfAllEnclosed}
-use Rattle.inside_test.specs.Tilted.{tilted}
+use Rattle.exact_plane.specs.declared.bounding_box.BoundingBox.{BoundingBox}
+use Rattle.inside_test.specs.Block.{IsBoxMissed, IsBoxPassed, IsBoxRight, OfAllEnclosed}
+use Rattle.inside_test.specs.Slab.{IsInSlab, offset}
 use Rattle.inside_test.specs.declared.bundle.Bundle.{Bundle}
+use Rattle.inside_test.specs.declared.slab.Slab.{Slab}
+
+-- the point is within the limits, in the box and in the slab
+pub record IsInBundle (b : Bundle) (v : Point) : Type 0 where
+  pub bounds : IsInBounds v
+  pub box : Encloses b.around v
+  pub slab : IsInSlab b.slab v
 
 -- the bundle has the edge from u to v, and no other
 pub record IsBundleOf (b : Bundle) (u v : Point) : Type 0 where
-  pub first_bounds : IsInBounds u
-  pub last_bounds : IsInBounds v
-  pub first : Encloses b.around u
-  pub last : Encloses b.around v
-  pub first_tilted : Encloses b.tilted (tilted u)
-  pub last_tilted : Encloses b.tilted (tilted v)
+  pub first : IsInBundle b u
+  pub last : IsInBundle b v
   pub heights : ((u.y ≤ℤ b.low) × (b.high ≤ℤ v.y)) ⊎ ((v.y ≤ℤ b.low) × (b.high ≤ℤ u.y))
   pub odd : b.is_odd ≡ true
+
+-- what is in the bundle is in the slab
+abbrev pub HasSlab : Bundle → Slab → Type 0
+HasSlab b slab = (v : Point) → IsInBundle b v → IsInSlab slab v
+
+-- what is in the boxes of two bundles is in another box
+pub record IsRoundBoth (a b : Bundle) (around : BoundingBox) : Type 0 where
+  pub first : (v : Point) → Encloses a.around v → Encloses around v
+  pub second : (v : Point) → Encloses b.around v → Encloses around v
 
 -- what the first bundle has in it, the second has too
 pub record IsWider (a c : Bundle) : Type 0 where
   pub box : (v : Point) → Encloses a.around v → Encloses c.around v
-  pub tilted : (v : Point) → Encloses a.tilted v → Encloses c.tilted v
+  pub slab : HasSlab a c.slab
   pub low : a.low ≤ℤ c.low
   pub high : c.high ≤ℤ a.high
 
@@ -31,15 +44,39 @@ pub record IsBundleOfBoth (a b c : Bundle) : Type 0 where
   pub second : IsWider b c
   pub odd : c.is_odd ≡ not (beq a.is_odd b.is_odd)
 
--- the ray from the point to the right misses both boxes,
+-- the second bundle has the edges of the first, and the one from u to v
+pub record HasOneMore (a : Bundle) (u v : Point) (c : Bundle) : Type 0 where
+  pub edge : Bundle
+  pub is : IsBundleOf edge u v
+  pub both : IsBundleOfBoth a edge c
+
+-- along a way that goes upward, all that is in the bundle is left of the point,
+pub record IsLeftAlong (b : Bundle) (p : Triple) : Type 0 where
+  pub across : ℤ
+  pub up : ℤ
+  pub rises : pos 0 <ℤ up
+  pub all : (v : Point) → IsInBundle b v → (offset across up v.x v.y *ℤ p.W) <ℤ offset across up p.X p.Y
+
+-- or right of it
+pub record IsRightAlong (b : Bundle) (p : Triple) : Type 0 where
+  pub across : ℤ
+  pub up : ℤ
+  pub rises : pos 0 <ℤ up
+  pub all : (v : Point) → IsInBundle b v → offset across up p.X p.Y <ℤ (offset across up v.x v.y *ℤ p.W)
+
+-- the ray from the point to the right misses the box or the slab,
 abbrev pub IsBundleMissed : Bundle → Triple → Type 0
-IsBundleMissed b p = IsBoxMissed b.around p ⊎ IsTiltPast b.tilted p
+IsBundleMissed b p = IsBoxMissed b.around p ⊎ IsLeftAlong b p
 
 -- one of them is right of it, so that an edge is crossed where it passes the height of the point
 abbrev pub IsBundleRight : Bundle → Triple → Type 0
-IsBundleRight b p = IsBoxRight b.around p ⊎ IsTiltBefore b.tilted p
+IsBundleRight b p = IsBoxRight b.around p ⊎ IsRightAlong b p
 
--- and the ray crosses each edge: the point is at a height that all of them pass
+-- each edge is crossed exactly where one of its ends is above the point, and has it not on it
+abbrev pub IsBundlePassed : Bundle → Triple → Type 0
+IsBundlePassed b p = IsBoxPassed b.around p ⊎ IsRightAlong b p
+
+-- the ray crosses each edge: the point is at a height that all of them pass
 pub record CrossesAll (b : Bundle) (p : Triple) : Type 0 where
   pub right : IsBundleRight b p
   pub low : (y : ℤ) → IsInLimit y → y ≤ℤ b.low → (y *ℤ p.W) ≤ℤ p.Y

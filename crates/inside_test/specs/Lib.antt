@@ -5,5 +5,6 @@ pub mod Bundle
 pub mod Level
 pub mod Meeting
 pub mod Odd
+pub mod Probe
 pub mod Runs
-pub mod Tilted
+pub mod Slab

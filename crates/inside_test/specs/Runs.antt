@@ -3,21 +3,17 @@ use Rattle.std.specs.Bool.{beq}
 use Rattle.std.specs.Prelude.{◌≡◌, ◌⊎◌, ◌+◌, ◌<◌, ◌≤◌, ℕ, Bool, not, List, length}
 use Rattle.plane.specs.Point.{IsPoint, Point, Triple}
 use Rattle.rings.specs.Ring.{vertex}
-use Rattle.exact_plane.specs.Boxes.{Encloses}
-use Rattle.ring_check.specs.Boxes.{EnclosesEdge}
-use Rattle.inside_test.specs.Bundle.{IsTold}
+use Rattle.inside_test.specs.Bundle.{IsInBundle, IsTold}
 use Rattle.inside_test.specs.Odd.{IsOddOver}
-use Rattle.inside_test.specs.Tilted.{tilted}
 use Rattle.inside_test.specs.declared.bundle.Bundle.{Bundle}
 use Rattle.inside_test.specs.declared.runs.Run.{Run}
 
--- edge e is in both boxes
+-- both ends of edge e are in the bundle
 pub record IsBundled (ring : List Point) (b : Bundle) (e : ℕ) : Type 0 where
-  pub box : EnclosesEdge ring b.around e
-  pub from_tilted : Encloses b.tilted (tilted (vertex ring e))
-  pub to_tilted : Encloses b.tilted (tilted (vertex ring (e + 1)))
+  pub from : IsInBundle b (vertex ring e)
+  pub to : IsInBundle b (vertex ring (e + 1))
 
--- edge e is in both boxes of one of the bundles
+-- they are in one of the bundles
 abbrev pub IsBoxed : List Point → Run → ℕ → Type 0
 IsBoxed ring run e = IsBundled ring run.eastward e ⊎ IsBundled ring run.northward e ⊎ IsBundled ring run.westward e ⊎ IsBundled ring run.southward e
 
@@ -40,7 +36,7 @@ pub record AllTell (run : Run) (p : Triple) (odd : Bool) : Type 0 where
   pub southward : IsTold run.southward p south
   pub all : odd ≡ not (beq (not (beq east north)) (not (beq west south)))
 
--- it has edges of the ring, each in one of the boxes, and what the bundles tell is so
+-- it has edges of the ring, each in one of the bundles, and what the bundles tell is so
 pub record IsRunOf (ring : List Point) (run : Run) : Type 0 where
   pub within : run.end ≤ length ring
   pub boxed : (e : ℕ) → run.first ≤ e → e < run.end → IsBoxed ring run e

@@ -1,14 +1,17 @@
 // A rational number among the whole numbers, and a rational point among the vertices.
 ghost use Rattle.std.specs.Int.{int_div_euclid};
-ghost use Rattle.std.specs.Prelude.{◌≡◌, ◌↔◌, ◌+◌, ◌<◌, ◌≤◌, ◌^◌, ◌<ℤ◌, ◌≤ℤ◌, ◌+ℤ◌, ◌-ℤ◌, ◌*ℤ◌, ℤ, IfSome, IsTrue, pos, unsigned_abs};
+ghost use Rattle.std.specs.Prelude.{◌≡◌, ◌↔◌, ◌+◌, ◌<◌, ◌≤◌, ◌^◌, ◌<ℤ◌, ◌≤ℤ◌, ◌*ℤ◌, ℤ, IfSome, IsTrue, pos, unsigned_abs};
 ghost use Rattle.plane.specs.Point.{IsInLimit, IsPoint, IsSame, Triple, whole};
-ghost use Rattle.inside_test.specs.Block.{IsBoxMissed, IsBoxOffHeight, IsBoxPassed, IsBoxRight, IsTiltBefore, IsTiltPast};
-ghost use Rattle.inside_test.specs.Bundle.{IsBundleRight, IsTold};
-ghost use Rattle.inside_test.specs.Level.{AreLevels, IsLevel, IsTilt};
+ghost use Rattle.inside_test.specs.Block.{IsBoxMissed, IsBoxOffHeight, IsBoxPassed, IsBoxRight};
+ghost use Rattle.inside_test.specs.Bundle.{IsBundlePassed, IsBundleRight, IsTold};
+ghost use Rattle.inside_test.specs.Level.{AreLevels, ArePartsOf, IsLevel};
 ghost use Rattle.inside_test.specs.Runs.{AllTell, IsEachBundle};
+ghost use Rattle.inside_test.specs.Slab.{IsSlabLeft, IsSlabRight, offset};
 
 use crate::bundle::Bundle;
+use crate::hom_parts::HomParts;
 use crate::runs::Run;
+use crate::slab::Slab;
 use exact_plane::{BoundingBox, Hom, Pt, Steps};
 use std::sync::ledger::Ledger;
 
@@ -107,60 +110,44 @@ fn quotient(part: i128, weight: i128) -> i128
     }
 }
 
-// A rational point in axes that are turned by an eighth: the sum of its first two parts, their difference, and the weight.
-#[derive(Clone, Copy)]
-pub(crate) struct Tilt {
-    pub sum: i128,
-    pub difference: i128,
-    pub weight: i64,
-}
-
-impl Tilt {
-    // That of a point with these parts.
-    fn of(x: i128, y: i128, w: i128) -> Tilt
-        requires x { unsigned_abs x < 2 ^ 75 }
-        requires y { unsigned_abs y < 2 ^ 75 }
-        requires w { unsigned_abs w < 2 ^ 50 }
-        ensures sum { result.sum ≡ x +ℤ y }
-        ensures difference { result.difference ≡ x -ℤ y }
-        ensures weight { result.weight ≡ w }
+impl HomParts {
+    // Whether all points of a slab are left of it, along the slab.
+    fn is_past(&self, slab: &Slab) -> bool
+        ensures { IsTrue result → (p : Triple) → ArePartsOf self.now p → IsSlabLeft slab.now p }
     {
-        Tilt {
-            sum: x + y,
-            difference: x - y,
-            weight: w as i64,
-        }
+        self.weighed(slab.greatest) < self.offset(slab)
     }
 
-    // Whether the sum or the difference is greater than all in this box.
-    fn is_past(&self, tilted: &BoundingBox) -> bool
-        ensures { IsTrue result → (p : Triple) → IsTilt self.now p → IsTiltPast tilted.now p }
+    // Whether all of them are right of it.
+    fn is_before(&self, slab: &Slab) -> bool
+        ensures { IsTrue result → (p : Triple) → ArePartsOf self.now p → IsSlabRight slab.now p }
     {
-        self.weighed(tilted.east) < self.sum || self.weighed(tilted.north) < self.difference
+        self.offset(slab) < self.weighed(slab.least)
     }
 
-    // Whether it is less than all.
-    fn is_before(&self, tilted: &BoundingBox) -> bool
-        ensures { IsTrue result → (p : Triple) → IsTilt self.now p → IsTiltBefore tilted.now p }
+    // How far right of a slab's way it is, by its weight.
+    fn offset(&self, slab: &Slab) -> i128
+        ensures value { result ≡ offset slab.now.across slab.now.up self.now.x self.now.y }
+        ensures fits { unsigned_abs result < 2 ^ 101 }
     {
-        self.sum < self.weighed(tilted.west) || self.difference < self.weighed(tilted.south)
+        slab.up as i128 * self.x - slab.across as i128 * self.y
     }
 
     // A number with the weight.
-    fn weighed(&self, z: i32) -> i128
-        requires { unsigned_abs z < 2 ^ 31 }
+    fn weighed(&self, z: i64) -> i128
+        requires { unsigned_abs z ≤ 2 ^ 40 }
         ensures { result ≡ z *ℤ self.now.weight }
     {
         z as i128 * self.weight as i128
     }
 }
 
-// The levels of a rational point: of x, and of its height; and the point in turned axes.
+// The levels of a rational point: of x, and of its height; and its parts.
 #[derive(Clone, Copy)]
 pub(crate) struct Levels {
     pub across: Level,
     pub height: Level,
-    pub tilt: Tilt,
+    pub parts: HomParts,
 }
 
 impl Levels {
@@ -175,7 +162,11 @@ impl Levels {
         Levels {
             across: Level::of(x, w),
             height: Level::of(y, w),
-            tilt: Tilt::of(x, y, w),
+            parts: HomParts {
+                x,
+                y,
+                weight: w as i64,
+            },
         }
     }
 
@@ -240,7 +231,7 @@ impl Levels {
         self.is_off_height(around) || self.is_left_of_all(around)
     }
 
-    // Whether an odd number of a bundle's edges is crossed, where its boxes and its heights tell.
+    // Whether an odd number of a bundle's edges is crossed, where its box and its heights tell.
     fn odd_of(&self, bundle: &Bundle) -> Option<bool>
         ensures { IfSome result (λ odd. (p : Triple) → AreLevels self.now p → IsTold bundle.now p odd) }
     {
@@ -250,26 +241,26 @@ impl Levels {
         if self.is_left_of_all(&bundle.around) {
             return self.odd_at_height(bundle);
         }
-        if bundle.is_thin {
-            return self.odd_by_tilt(bundle);
-        }
         None
     }
 
-    // The same by the box in turned axes.
-    fn odd_by_tilt(&self, bundle: &Bundle) -> Option<bool>
+    // The same by its box or its slab.
+    fn odd_by_slab(&self, bundle: &Bundle) -> Option<bool>
         ensures { IfSome result (λ odd. (p : Triple) → AreLevels self.now p → IsTold bundle.now p odd) }
     {
-        if self.tilt.is_past(&bundle.tilted) {
+        if let Some(odd) = self.odd_of(bundle) {
+            return Some(odd);
+        }
+        if self.parts.is_past(&bundle.slab) {
             return Some(false);
         }
-        if self.tilt.is_before(&bundle.tilted) {
+        if self.parts.is_before(&bundle.slab) {
             return self.odd_at_height(bundle);
         }
         None
     }
 
-    // The same by the heights, where one of the boxes is right of the point.
+    // The same by the heights, where the box or the slab is right of the point.
     fn odd_at_height(&self, bundle: &Bundle) -> Option<bool>
         requires { (p : Triple) → AreLevels self.now p → IsBundleRight bundle.now p }
         ensures { IfSome result (λ odd. (p : Triple) → AreLevels self.now p → IsTold bundle.now p odd) }
@@ -283,28 +274,39 @@ impl Levels {
         None
     }
 
-    // Whether an odd number of a run's edges is, where each of its bundles tells.
+    // Whether an odd number of a run's edges is, where the box of each of its bundles tells.
     pub(crate) fn odd_of_all(&self, run: &Run) -> Option<bool>
         ensures { IfSome result (λ odd. (p : Triple) → AreLevels self.now p → AllTell run.now p odd) }
     {
-        let Some(east) = self.odd_of(&run.eastward) else {
-            return None;
-        };
-        let Some(north) = self.odd_of(&run.northward) else {
-            return None;
-        };
-        let Some(west) = self.odd_of(&run.westward) else {
-            return None;
-        };
-        let Some(south) = self.odd_of(&run.southward) else {
-            return None;
-        };
+        let east = self.odd_of(&run.eastward)?;
+        let north = self.odd_of(&run.northward)?;
+        let west = self.odd_of(&run.westward)?;
+        let south = self.odd_of(&run.southward)?;
         Some((east != north) != (west != south))
     }
 
-    // Whether it passes each of them.
-    pub(crate) fn passes_all(&self, run: &Run) -> bool
-        ensures { IsTrue result → (p : Triple) → AreLevels self.now p → IsEachBundle run.now (λ b. IsBoxPassed b.around p) }
+    // The same, where the box or the slab of each tells.
+    #[inline(never)]
+    pub(crate) fn odd_by_slabs(&self, run: &Run) -> Option<bool>
+        ensures { IfSome result (λ odd. (p : Triple) → AreLevels self.now p → AllTell run.now p odd) }
+    {
+        let east = self.odd_by_slab(&run.eastward)?;
+        let north = self.odd_by_slab(&run.northward)?;
+        let west = self.odd_by_slab(&run.westward)?;
+        let south = self.odd_by_slab(&run.southward)?;
+        Some((east != north) != (west != south))
+    }
+
+    // Whether it passes each bundle of a run: by the boxes, or where edges lean side by side by the slabs.
+    pub(crate) fn passes_run(&self, run: &Run) -> bool
+        ensures { IsTrue result → (p : Triple) → AreLevels self.now p → IsEachBundle run.now (λ b. IsBundlePassed b p) }
+    {
+        self.passes_all(run) || run.leans && self.passes_slabs(run)
+    }
+
+    // Whether it passes the box of each bundle.
+    fn passes_all(&self, run: &Run) -> bool
+        ensures { IsTrue result → (p : Triple) → AreLevels self.now p → IsEachBundle run.now (λ b. IsBundlePassed b p) }
     {
         if !self.passes(&run.eastward.around) {
             return false;
@@ -313,6 +315,27 @@ impl Levels {
             return false;
         }
         self.passes(&run.westward.around) && self.passes(&run.southward.around)
+    }
+
+    // Whether it passes the box or the slab of each.
+    #[inline(never)]
+    fn passes_slabs(&self, run: &Run) -> bool
+        ensures { IsTrue result → (p : Triple) → AreLevels self.now p → IsEachBundle run.now (λ b. IsBundlePassed b p) }
+    {
+        if !self.passes_slab(&run.eastward) {
+            return false;
+        }
+        if !self.passes_slab(&run.northward) {
+            return false;
+        }
+        self.passes_slab(&run.westward) && self.passes_slab(&run.southward)
+    }
+
+    // Whether it passes the box, or the slab is right of the point.
+    fn passes_slab(&self, bundle: &Bundle) -> bool
+        ensures { IsTrue result → (p : Triple) → AreLevels self.now p → IsBundlePassed bundle.now p }
+    {
+        self.passes(&bundle.around) || self.parts.is_before(&bundle.slab)
     }
 
     // Whether it is at the height of one.

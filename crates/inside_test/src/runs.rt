@@ -1,14 +1,15 @@
 // Runs of a ring's edges, by which a question about all of them passes over many at a time.
 ghost use Rattle.std.specs.List.{All};
-ghost use Rattle.std.specs.Prelude.{◌≡◌, ◌+◌, ◌*◌, ◌-◌, ◌<◌, ◌≤◌, ◌⊎◌, IfOk, IsTrue, List, length};
+ghost use Rattle.std.specs.Prelude.{◌≡◌, ◌+◌, ◌*◌, ◌-◌, ◌<◌, ◌≤◌, IfOk, IsTrue, List, length};
 ghost use Rattle.plane.specs.Point.{Point};
-ghost use Rattle.exact_plane.specs.Boxes.{Encloses, Overlap};
+ghost use Rattle.exact_plane.specs.Boxes.{Encloses};
 ghost use Rattle.inside_test.specs.Apart.{MissesEdges};
+ghost use Rattle.inside_test.specs.Probe.{IsApartBundle, IsOffBundle, IsProbe};
 ghost use Rattle.inside_test.specs.Runs.{IsEachBundle, IsRunOf};
-ghost use Rattle.inside_test.specs.Tilted.{AreEnclosed};
 
 use crate::bundle::Bundle;
-use crate::bundles::tilted_box;
+use crate::probe::Probe;
+use crate::stretch::{Place, Way};
 use exact_plane::{BoundingBox, Memory, Pt, Steps};
 use ring_check::{RUN, Ring, greatest_run_from, lesser_run};
 use std::alloc::Global;
@@ -18,24 +19,17 @@ use std::sync::ledger::Ledger;
 // How many edges a run has at most that joins no others.
 const SHORT: u32 = RUN as u32;
 
-// The edges from `first` to before `end`, in bundles by the way that they go.
+// The edges from `first` to before `end`, in bundles by the way that they go. Where edges of one lean side by side, slabs are asked
+// too.
 #[derive(Clone, Copy)]
 pub(crate) struct Run {
     pub first: u32,
     pub end: u32,
+    pub leans: bool,
     pub eastward: Bundle,
     pub northward: Bundle,
     pub westward: Bundle,
     pub southward: Bundle,
-}
-
-// The four ways, each up to a quarter turn to the left.
-#[derive(Clone, Copy, PartialEq, Eq)]
-enum Way {
-    East,
-    North,
-    West,
-    South,
 }
 
 impl Run {
@@ -47,6 +41,7 @@ impl Run {
         Run {
             first,
             end: first,
+            leans: false,
             eastward: Bundle::empty(),
             northward: Bundle::empty(),
             westward: Bundle::empty(),
@@ -54,39 +49,24 @@ impl Run {
         }
     }
 
-    // Its edges and edge `e`, the next.
-    fn with_edge<L: Ledger>(&self, ring: &Ring, e: u32, steps: &mut Steps<L>) -> Run
-        requires run { IsRunOf ring.now.corners self.now }
-        requires next { e ≡ self.now.end }
+    // Takes in edge `e`, the next.
+    fn push<L: Ledger>(&mut self, ring: &Ring, e: u32, steps: &mut Steps<L>)
+        requires run { IsRunOf ring.now.corners self.old }
+        requires next { e ≡ self.old.end }
         requires edge { e < length ring.now.corners }
-        ensures run { IsRunOf ring.now.corners result }
-        ensures end { result.end ≡ e + 1 }
-        ensures steps { steps.new ≡ steps.old + 512 }
+        ensures run { IsRunOf ring.now.corners self.new }
+        ensures end { self.new.end ≡ e + 1 }
+        ensures steps { steps.new ≡ steps.old + 128 }
     {
         let _length = ring.len();
-        let (a, b) = (ring.corner(e), ring.next(e));
-        let edge = Bundle::of(&a, &b, steps);
-        let run = Run {
-            end: e + 1,
-            ..*self
-        };
-        match way_of(&a, &b, steps) {
-            Way::East => Run {
-                eastward: run.eastward.joined(&edge, false),
-                ..run
-            },
-            Way::North => Run {
-                northward: run.northward.joined(&edge, false),
-                ..run
-            },
-            Way::West => Run {
-                westward: run.westward.joined(&edge, false),
-                ..run
-            },
-            Way::South => Run {
-                southward: run.southward.joined(&edge, false),
-                ..run
-            },
+        let a = Place::of(&ring.corner(e), steps);
+        let b = Place::of(&ring.next(e), steps);
+        self.end = e + 1;
+        match a.to(&b).way() {
+            Way::East => self.eastward.push(&a, &b),
+            Way::North => self.northward.push(&a, &b),
+            Way::West => self.westward.push(&a, &b),
+            Way::South => self.southward.push(&a, &b),
         }
     }
 
@@ -95,12 +75,13 @@ impl Run {
         requires some { first ≤ end }
         requires within { end ≤ length ring.now.corners }
         ensures run { IsRunOf ring.now.corners result }
-        ensures steps { steps.new ≤ steps.old + 512 * (end - first) }
+        ensures steps { steps.new ≤ steps.old + 128 * (end - first) }
     {
         let mut run = Run::none(first);
         for e in first..end {
-            run = run.with_edge(ring, e, steps);
+            run.push(ring, e, steps);
         }
+        run.mark();
         run
     }
 
@@ -111,52 +92,57 @@ impl Run {
         if next.first != self.end {
             return *self;
         }
-        let winds = self.winds();
-        Run {
+        let mut run = Run {
             first: self.first,
             end: next.end,
-            eastward: self.eastward.joined(&next.eastward, winds),
-            northward: self.northward.joined(&next.northward, winds),
-            westward: self.westward.joined(&next.westward, winds),
-            southward: self.southward.joined(&next.southward, winds),
-        }
+            leans: false,
+            eastward: self.eastward.joined(&next.eastward),
+            northward: self.northward.joined(&next.northward),
+            westward: self.westward.joined(&next.westward),
+            southward: self.southward.joined(&next.southward),
+        };
+        run.mark();
+        run
     }
 
-    // Whether it has edges that go each way, as where a list winds round. Only the time rests on it.
-    fn winds(&self) -> bool {
-        if self.eastward.is_empty() || self.northward.is_empty() {
-            return false;
-        }
-        !self.westward.is_empty() && !self.southward.is_empty()
-    }
-
-    // Whether each bundle has a box that shares no point with one of these, round a segment, of which the second is tilted.
-    fn is_apart(&self, around: &BoundingBox, tilted: &BoundingBox) -> bool
-        ensures { IsTrue result → IsEachBundle self.now (λ b. (¬ Overlap around.now b.around) ⊎ (¬ Overlap tilted.now b.tilted)) }
+    // Marks it where the edges of a bundle lean side by side.
+    fn mark(&mut self)
+        ensures run { (ring : List Point) → IsRunOf ring self.old → IsRunOf ring self.new }
+        ensures end { self.new.end ≡ self.old.end }
     {
-        if !self.eastward.is_apart(around, tilted) {
-            return false;
-        }
-        if !self.northward.is_apart(around, tilted) {
-            return false;
-        }
-        self.westward.is_apart(around, tilted) && self.southward.is_apart(around, tilted)
+        let leans = self.eastward.leans() || self.northward.leans();
+        self.leans = leans || self.westward.leans() || self.southward.leans();
     }
-}
 
-// The way from `a` to `b`. Only the time rests on it.
-fn way_of<L: Ledger>(a: &Pt, b: &Pt, steps: &mut Steps<L>) -> Way
-    ensures { steps.new ≡ steps.old + 128 }
-{
-    let (a, b) = (a.parts(steps), b.parts(steps));
-    if a.0 < b.0 && a.1 <= b.1 {
-        Way::East
-    } else if a.1 < b.1 {
-        Way::North
-    } else if b.0 < a.0 {
-        Way::West
-    } else {
-        Way::South
+    // Whether each bundle is apart from a segment: by its box, or where edges lean side by side by its slab or the segment's line.
+    fn is_apart(&self, probe: &Probe) -> bool
+        ensures { IsTrue result → IsEachBundle self.now (IsApartBundle probe.now) }
+    {
+        self.is_off(&probe.around) || self.leans && self.is_beside(probe)
+    }
+
+    // Whether no bundle's box shares a point with this one.
+    fn is_off(&self, around: &BoundingBox) -> bool
+        ensures { IsTrue result → IsEachBundle self.now (IsOffBundle around.now) }
+    {
+        if self.eastward.around.overlaps(around) || self.northward.around.overlaps(around) {
+            return false;
+        }
+        !self.westward.around.overlaps(around) && !self.southward.around.overlaps(around)
+    }
+
+    // Whether each bundle is apart from a segment, by all that is known.
+    #[inline(never)]
+    fn is_beside(&self, probe: &Probe) -> bool
+        ensures { IsTrue result → IsEachBundle self.now (IsApartBundle probe.now) }
+    {
+        if !self.eastward.is_beside(probe) {
+            return false;
+        }
+        if !self.northward.is_beside(probe) {
+            return false;
+        }
+        self.westward.is_beside(probe) && self.southward.is_beside(probe)
     }
 }
 
@@ -196,8 +182,8 @@ impl<'a> Runs<'a> {
         })
     }
 
-    /// The edge behind the greatest run from edge `first` on whose boxes share no point with this one. Where there is no such run, that is
-    /// `first`.
+    /// The edge behind the greatest run from edge `first` on whose boxes share no point with this one, or that is apart from the segment
+    /// otherwise. Where there is no such run, that is `first`.
     pub fn apart_to<L: Ledger>(
         &self,
         first: u32,
@@ -213,8 +199,16 @@ impl<'a> Runs<'a> {
         ensures apart { MissesEdges self.now first result p.now q.now }
         ensures steps { steps.new ≡ steps.old + 128 }
     {
-        let tilted = tilted_box(p, q, steps);
-        apart_to(self.ring, &self.runs, first, around, &tilted)
+        self.apart_from(first, &Probe::of(p, q, around, steps))
+    }
+
+    // The same of a probe.
+    pub(crate) fn apart_from(&self, first: u32, probe: &Probe) -> u32
+        requires first { first ≤ length self.now }
+        ensures within { result ≤ length self.now }
+        ensures apart { (p q : Point) → IsProbe probe.now p q → MissesEdges self.now first result p q }
+    {
+        apart_to(self.ring, &self.runs, first, probe)
     }
 
     // Each of them.
@@ -260,24 +254,18 @@ fn short_runs<L: Ledger>(
     Ok(runs)
 }
 
-// The edge behind the greatest of these runs from edge `first` on that is apart from the two boxes round a segment; or `first`.
-fn apart_to(
-    ring: &Ring,
-    runs: &[Run],
-    first: u32,
-    around: &BoundingBox,
-    tilted: &BoundingBox,
-) -> u32
+// The edge behind the greatest of these runs from edge `first` on that is apart from a segment; or `first`.
+fn apart_to(ring: &Ring, runs: &[Run], first: u32, probe: &Probe) -> u32
     requires runs { All (IsRunOf ring.now.corners) runs.now }
     requires within { first ≤ length ring.now.corners }
     ensures within { result ≤ length ring.now.corners }
-    ensures apart { (p q : Point) → AreEnclosed around.now tilted.now p q → MissesEdges ring.now.corners first result p q }
+    ensures apart { (p q : Point) → IsProbe probe.now p q → MissesEdges ring.now.corners first result p q }
 {
     let mut next = greatest_run_from(runs.len(), first as usize);
     while let Some(k) = next {
         if k < runs.len() {
             let run = &runs[k];
-            if run.first == first && run.is_apart(around, tilted) {
+            if run.first == first && run.is_apart(probe) {
                 return run.end;
             }
         }

@@ -6,13 +6,14 @@ ghost use Rattle.plane.specs.Point.{IsPoint, Triple, whole};
 ghost use Rattle.plane.specs.Segment.{On};
 ghost use Rattle.rings.specs.Inside.{IsIn};
 ghost use Rattle.rings.specs.Sees.{Sees};
-ghost use Rattle.exact_plane.specs.Boxes.{Encloses};
 ghost use Rattle.exact_plane.specs.Direction.{turn_of};
 ghost use Rattle.exact_plane.specs.Size.{IsNarrow};
 ghost use Rattle.inside_test.specs.Breakpoints.{EnclosesAll, ExtendsOnSegment, IsListed, Lists, ListsMeetings, breakpoint_points};
+ghost use Rattle.inside_test.specs.Probe.{IsProbe};
 
 use crate::breakpoint::Breakpoint;
 use crate::position::{BLOCK, Position, place_by};
+use crate::probe::Probe;
 use crate::runs::Runs;
 use crate::skip::{ByBlocks, Skip};
 use exact_plane::{
@@ -101,7 +102,7 @@ fn breakpoints<L: Ledger>(
     ensures points { IfOk result (λ points.
         ListsMeetings ring.now.corners (length ring.now.corners) (whole a.now) (whole b.now) (breakpoint_points points.items)) }
     ensures few { IfOk result (λ points. length points.items ≤ 2 * length ring.now.corners + 2) }
-    ensures steps { steps.new ≤ steps.old + (1179 * length ring.now.corners + 258) }
+    ensures steps { steps.new ≤ steps.old + (1179 * length ring.now.corners + 386) }
 {
     let mut points = Vec::with_capacity(alloc, FEW)?;
     push(&mut points, Hom::of_pt(a, steps), steps)?;
@@ -124,32 +125,32 @@ fn push_edges<L: Ledger>(
     ensures points { OnOk result
         (ListsMeetings ring.now.corners (length ring.now.corners) (whole a.now) (whole b.now) (breakpoint_points points.new.items)) }
     ensures few { OnOk result (length points.new.items ≤ length points.old.items + 2 * length ring.now.corners) }
-    ensures steps { steps.new ≤ steps.old + (1179 * length ring.now.corners + 128) }
+    ensures steps { steps.new ≤ steps.old + (1179 * length ring.now.corners + 256) }
 {
     let n = ring.len();
     if n <= BLOCK {
         return push_block(points, ring, 0, n, a, b, steps);
     }
     let around = BoundingBox::of(&[*a, *b], steps);
+    let probe = Probe::of(a, b, &around, steps);
     match runs {
-        Some(runs) => push_with(points, ring, runs, a, b, &around, steps),
-        None => push_with(points, ring, &ByBlocks, a, b, &around, steps),
+        Some(runs) => push_with(points, ring, runs, a, b, &probe, steps),
+        None => push_with(points, ring, &ByBlocks, a, b, &probe, steps),
     }
 }
 
-// The same by what knows of edges beforehand. The segment is in the box.
+// The same by what knows of edges beforehand.
 fn push_with<S: Skip, L: Ledger>(
     points: &mut Vec<Breakpoint>,
     ring: &Ring,
     skip: &S,
     a: &Pt,
     b: &Pt,
-    around: &BoundingBox,
+    probe: &Probe,
     steps: &mut Steps<L>,
 ) -> Result<(), Memory>
     requires of { S.is_of skip.now ring.now.corners }
-    requires has_first { Encloses around.now a.now }
-    requires has_last { Encloses around.now b.now }
+    requires probe { IsProbe probe.now a.now b.now }
     requires before { ListsMeetings ring.now.corners 0 (whole a.now) (whole b.now) (breakpoint_points points.old.items) }
     ensures points { OnOk result
         (ListsMeetings ring.now.corners (length ring.now.corners) (whole a.now) (whole b.now) (breakpoint_points points.new.items)) }
@@ -159,7 +160,7 @@ fn push_with<S: Skip, L: Ledger>(
     let n = ring.len();
     let mut first = 0;
     while first < n {
-        let apart = skip.apart_to(ring, first, a, b, around, steps);
+        let apart = skip.apart_to(ring, first, probe, steps);
         if first < apart {
             first = apart;
         } else {

@@ -2,15 +2,16 @@
 ghost use Rattle.std.specs.List.{All};
 ghost use Rattle.std.specs.Prelude.{◌≡◌, ◌+◌, ◌*◌, ◌-◌, ◌<◌, ◌≤◌, ℕ, IfNone, IfSome, IsTrue, List, length};
 ghost use Rattle.plane.specs.Point.{Point};
-ghost use Rattle.exact_plane.specs.Boxes.{Encloses};
 ghost use Rattle.inside_test.specs.Apart.{MissesEdges};
 ghost use Rattle.inside_test.specs.Odd.{IsOddAhead, IsOddTo};
+ghost use Rattle.inside_test.specs.Probe.{IsProbe};
 ghost use Rattle.inside_test.specs.Runs.{IsRunOf};
 
 use crate::level::Levels;
 use crate::position::{BLOCK, odd_by_box};
+use crate::probe::Probe;
 use crate::runs::{Run, Runs};
-use exact_plane::{BoundingBox, Pt, Steps};
+use exact_plane::{BoundingBox, Steps};
 use ring_check::{Ring, greatest_run_from, lesser_run};
 use std::sync::ledger::Ledger;
 
@@ -22,23 +23,18 @@ pub(crate) trait Skip {
     // To ask it for an edge that is apart takes at most so many steps.
     ghost asks: { Self → ℕ → Type 0 };
 
-    // An edge so that none from `first` to before it meets the segment from `a` to `b`, which is in the box. Where none is
-    // passed over, that is `first`.
+    // An edge so that none from `first` to before it meets a segment. Where none is passed over, that is `first`.
     fn apart_to<L: Ledger>(
         &self,
         ring: &Ring,
         first: u32,
-        a: &Pt,
-        b: &Pt,
-        around: &BoundingBox,
+        probe: &Probe,
         steps: &mut Steps<L>,
     ) -> u32
         requires of { is_of self.now ring.now.corners }
         requires some { first < length ring.now.corners }
-        requires has_first { Encloses around.now a.now }
-        requires has_last { Encloses around.now b.now }
         ensures within { result ≤ length ring.now.corners }
-        ensures apart { MissesEdges ring.now.corners first result a.now b.now }
+        ensures apart { (p q : Point) → IsProbe probe.now p q → MissesEdges ring.now.corners first result p q }
         ensures steps { (most : ℕ) → asks self.now most → steps.new ≤ steps.old + most };
 
     // A later edge, and where it is known that the point with these levels is on none of those from `first` to before it,
@@ -70,16 +66,14 @@ impl Skip for ByBlocks {
         &self,
         ring: &Ring,
         first: u32,
-        a: &Pt,
-        b: &Pt,
-        around: &BoundingBox,
+        probe: &Probe,
         steps: &mut Steps<L>,
     ) -> u32 {
         if ring.len() - first <= BLOCK {
             return first;
         }
         let end = first + BLOCK;
-        if are_apart(ring, first, end, a, b, around, steps) {
+        if are_apart(ring, first, end, probe, steps) {
             end
         } else {
             first
@@ -102,42 +96,36 @@ impl Skip for ByBlocks {
     }
 }
 
-// Whether a box round the edges from number `first` to before `end` shows that the segment from `a` to `b` meets none of them.
+// Whether a box round the edges from number `first` to before `end` shows that a segment meets none of them.
 fn are_apart<L: Ledger>(
     ring: &Ring,
     first: u32,
     end: u32,
-    a: &Pt,
-    b: &Pt,
-    around: &BoundingBox,
+    probe: &Probe,
     steps: &mut Steps<L>,
 ) -> bool
     requires some { first < end }
     requires within { end < length ring.now.corners }
-    requires has_first { Encloses around.now a.now }
-    requires has_last { Encloses around.now b.now }
-    ensures apart { IsTrue result → MissesEdges ring.now.corners first end a.now b.now }
+    ensures apart { IsTrue result → (p q : Point) → IsProbe probe.now p q → MissesEdges ring.now.corners first end p q }
     ensures steps { steps.new ≡ steps.old + 64 * (end - first + 1) }
 {
     let vertices = &ring.corners()[first as usize..end as usize + 1];
-    !around.overlaps(&BoundingBox::of(vertices, steps))
+    !probe.around.overlaps(&BoundingBox::of(vertices, steps))
 }
 
 impl<'a> Skip for Runs<'a> {
     ghost is_of = { λ runs ring. runs ≡ ring };
 
-    ghost asks = { λ _ most. 128 ≤ most };
+    ghost asks = { λ _ _. Unit {0} };
 
     fn apart_to<L: Ledger>(
         &self,
         ring: &Ring,
         first: u32,
-        a: &Pt,
-        b: &Pt,
-        around: &BoundingBox,
+        probe: &Probe,
         steps: &mut Steps<L>,
     ) -> u32 {
-        self.apart_to(first, a, b, around, steps)
+        self.apart_from(first, probe)
     }
 
     fn odd_to<L: Ledger>(
@@ -199,7 +187,12 @@ fn odd_over<L: Ledger>(
     if let Some(odd) = levels.odd_of_all(run) {
         return Some(odd);
     }
-    if levels.passes_all(run) {
+    if run.leans {
+        if let Some(odd) = levels.odd_by_slabs(run) {
+            return Some(odd);
+        }
+    }
+    if levels.passes_run(run) {
         let begins_above = levels.is_below(&ring.corner(first), steps);
         let ends_above = levels.is_below(&ring.next(run.end - 1), steps);
         return Some(begins_above != ends_above);

@@ -17,7 +17,7 @@ loop-first-preserved-then-first-apart g c =
     let apart = c.apart_to-apart.ensures in
     record {
       points = lists_past c.args.ring.now.corners c.args.a.now c.args.b.now c.loop-first.first c.apart_to-apart.result (breakpoint_points c.loop-first.points.items)
-          before.points apart.apart;
+          before.points (apart.apart c.args.a.now c.args.b.now c.requires.probe);
       within = apart.within;
       few = omega (arith, before.few, c.if-first-apart.true);
       steps = λ most asks. omega (

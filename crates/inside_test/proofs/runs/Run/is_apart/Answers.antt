@@ -1,9 +1,7 @@
+use Rattle.std.proofs.Common.{inl}
 use Rattle.inside_test.proofs.runs.Run.is_apart.Goals as goal
 
-pub returns-then-is_apart : goal.returns-then-is_apart
-returns-then-is_apart c = λ south. record {
-  eastward = c.is_apart.ensures c.if-not-is_apart.false;
-  northward = c.is_apart-2.ensures c.if-not-is_apart-2.false;
-  westward = c.is_apart-3.ensures c.if-is_apart.true;
-  southward = c.is_apart-then-is_apart.ensures south;
-}
+pub returns-then-is_off : goal.returns-then-is_off
+returns-then-is_off c = λ _.
+    let off = c.is_off.ensures c.if-is_off.true in
+    record { eastward = inl off.eastward; northward = inl off.northward; westward = inl off.westward; southward = inl off.southward }

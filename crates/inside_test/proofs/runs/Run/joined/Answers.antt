@@ -4,5 +4,5 @@ use Rattle.inside_test.proofs.runs.Run.joined.Goals as goal
 
 pub returns : goal.returns
 returns c = λ ring here after.
-    run_of_both ring c.args.self.now c.args.next.now _ here after c.if-next-self.false refl refl
-    c.joined.ensures c.joined-2.ensures c.joined-3.ensures c.joined-4.ensures
+    c.mark.ensures.run ring (run_of_both ring c.args.self.now c.args.next.now _ here after c.if-next-self.false refl refl
+    c.joined.ensures c.joined-2.ensures c.joined-3.ensures c.joined-4.ensures)

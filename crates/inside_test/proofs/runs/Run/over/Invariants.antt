@@ -7,5 +7,5 @@ invariant-loop-e g l = record {
   run : IsRunOf l.ring.corners l.run;
   end : l.run.end ≡ l.e;
   within : l.e - l.first ≤ l.end - l.first;
-  steps : l.steps ≤ l.fn.steps + 512 * (l.e - l.first);
+  steps : l.steps ≤ l.fn.steps + 128 * (l.e - l.first);
 }
