@@ -53,14 +53,32 @@ def slope(n: int) -> Ring:
     return [(x - y, x + y) for x, y in ring]
 
 
-def wall(n: int) -> Ring:
-    """On one side of a way the tips of a quarter of the vertices touch it, on the other long teeth go down beside it; all that slanted."""
-    tips, height = n // 4, n + 8
-    teeth = (n - 2 * tips - 4) // 2
+def wall(n: int, parts: int = 1) -> Ring:
+    """On one side of a way the tips of about a quarter of the vertices touch it, on the other long teeth go down beside it, with so many
+    edges on each side; all that slanted."""
+    teeth, tips = wall_counts(n, parts)
+    height = 4 * tips + 8
     left = [point for k in reversed(range(tips)) for point in ((-10, 4 * k + 6), (0, 4 * k + 4))]
-    down = [point for k in reversed(range(teeth)) for point in ((4 * k + 10, height), (4 * k + 8, 1))]
+    ends = [point for k in reversed(range(teeth)) for point in ((4 * k + 10, height), (4 * k + 8, 1))] + [(6, height)]
+    down = [(a + (c - a) * k // parts, b + (d - b) * k // parts) for (a, b), (c, d) in zip(ends, ends[1:]) for k in range(parts)]
     upright = [(-10, 0), (4 * teeth + 10, 0)] + down + [(5, height), (-10, height)] + left
-    return [(3 * x + y, x + 2 * y) for x, y in upright]
+    return [slanted(point) for point in upright]
+
+
+def wall_counts(n: int, parts: int) -> Tuple[int, int]:
+    """How many teeth it has, and how many tips."""
+    teeth = (n - 2 * (n // 4) - 4) // (2 * parts)
+    return teeth, (n - 4) // 2 - parts * teeth
+
+
+def slanted(point: Point) -> Point:
+    x, y = point
+    return (3 * x + y, x + 2 * y)
+
+
+def fence(n: int) -> Ring:
+    """A wall that has 16 edges on each side of a tooth."""
+    return wall(n, 16)
 
 
 def spiral(n: int) -> Ring:
@@ -267,9 +285,14 @@ def way_across_convex(n: int) -> Ring:
     return [ring[n // 4], ring[3 * n // 4]]
 
 
-def way_along_wall(n: int) -> Ring:
+def way_along_wall(n: int, parts: int = 1) -> Ring:
     """Past the tips that touch it."""
-    return [(1, 2), (n + 7, 2 * (n + 7))]
+    _, tips = wall_counts(n, parts)
+    return [slanted((0, 1)), slanted((0, 4 * tips + 7))]
+
+
+def way_along_fence(n: int) -> Ring:
+    return way_along_wall(n, 16)
 
 
 def way_along_arch(n: int) -> Ring:
@@ -318,10 +341,16 @@ def turned(n: int) -> Ring:
     return [(x + y, x - y) for x, y in spiral(n)]
 
 
+def askew(n: int) -> Ring:
+    """The spiral, turned by another angle."""
+    return [(x - y // 2, x // 2 + y) for x, y in spiral(n)]
+
+
 Shape = Callable[[int], Ring]
 SHAPES: Dict[str, Shape] = {shape.__name__: shape for shape in (comb, star, maze, spiral)}
 SIX_SHAPES: Dict[str, Shape] = SHAPES | {shape.__name__: shape for shape in (convex, moon)}
-MORE_SHAPES: Dict[str, Shape] = SIX_SHAPES | {shape.__name__: shape for shape in (skyline, saw, fan, arch, hourglass, zigzag, slope, wall, turned, broom)}
+MORE_SHAPES: Dict[str, Shape] = SIX_SHAPES | {shape.__name__: shape for shape in (
+    skyline, saw, fan, arch, hourglass, zigzag, slope, wall, fence, turned, askew, broom)}
 WAYS: Dict[str, Shape] = {'comb': way_along_comb, 'convex': way_across_convex, 'saw': way_past_teeth}
 
 

@@ -10,7 +10,7 @@ use Rattle.plane.specs.Segment.{Meet}
 use Rattle.exact_plane.specs.Boxes.{Encloses}
 use Rattle.exact_plane.specs.declared.bounding_box.BoundingBox.{BoundingBox}
 use Rattle.inside_test.specs.Probe.{IsBesideBox, IsProbe}
-use Rattle.inside_test.specs.Slab.{AreBeyond, IsInSlab, offset, slab_offset}
+use Rattle.inside_test.specs.Slab.{AreBeyond, IsBetweenLines, offset, slab_offset}
 use Rattle.inside_test.specs.declared.probe.Probe.{Probe}
 use Rattle.inside_test.specs.declared.slab.Slab.{Slab}
 
@@ -33,7 +33,7 @@ module _ (slab : Slab) where
   under m p = under_is slab.across slab.up m p.x p.y
 
   -- a segment whose ends are beyond a line of the slab meets none in it
-  pub no_meet_beyond : (p q a b : Point) → AreBeyond slab p q → IsInSlab slab a → IsInSlab slab b → Meet (whole p) (whole q) (whole a) (whole b) → ⊥
+  pub no_meet_beyond : (p q a b : Point) → AreBeyond slab p q → IsBetweenLines slab a → IsBetweenLines slab b → Meet (whole p) (whole q) (whole a) (whole b) → ⊥
   no_meet_beyond p q a b (inl low) in_a in_b =
       no_meet_across (whole p) (whole q) (whole a) (whole b) (whole_is_point p) (whole_is_point q) (whole_is_point a) (whole_is_point b)
       (pos 0 -ℤ slab.up) slab.across slab.least

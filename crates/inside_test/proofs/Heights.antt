@@ -21,7 +21,7 @@ pub difference_read : (x y : ℤ) → IsInLimit x → IsInLimit y → short (rea
 difference_read x y h k = rw (read_is x h, read_is y k, height_read (x -ℤ y) (omega (arith, ints))) (short_is (x -ℤ y) (omega (arith, ints)))
 
 -- long numbers are compared as they are
-less_if : (a b : ℤ) → IsTrue (lt_z a b) → a <ℤ b
+pub less_if : (a b : ℤ) → IsTrue (lt_z a b) → a <ℤ b
 less_if a b h = grind (arith, ints)
 
 pub less_read : (a b : ℤ) → FitsSigned w128 a → FitsSigned w128 b → IsTrue (lt_z (wide a) (wide b)) → a <ℤ b

@@ -5,9 +5,9 @@ use Rattle.std.specs.Int.{int_max, int_min}
 use Rattle.std.specs.Int.Signed.{lt_z}
 use Rattle.std.specs.Prelude.{FitsSigned, IsTrue, unsigned_abs}
 use Rattle.integer_algebra.proofs.Polynomial.{var, ◌⊖◌, ◌⊗◌, same_value}
-use Rattle.plane.specs.Point.{IsInLimit}
 use Rattle.exact_plane.proofs.Registers.{read, short}
 use Rattle.exact_plane.proofs.WideProducts.{product_size}
+use Rattle.inside_test.proofs.Heights.{less_if}
 use Rattle.inside_test.proofs.Multiples.{long_read, multiple_read}
 
 -- a number of a slab is read as it is
@@ -54,10 +54,6 @@ module _ (by low high : ℤ) (small : unsigned_abs by < 2 ^ 24) (low_fits : unsi
 pub way_read : (z : ℤ) → unsigned_abs z < 2 ^ 24 → read z ≡ z
 way_read z small = long_read z (omega (arith, small))
 
--- compared numbers
-less_if : (a b : ℤ) → IsTrue (lt_z a b) → a <ℤ b
-less_if a b h = grind (arith, ints)
-
 -- how far right of its way a box reaches at most and at least, beside where a probe is, as they are compared
 module _ (a b here : ℤ) (a_fits : unsigned_abs a < 2 ^ 56) (b_fits : unsigned_abs b < 2 ^ 56) (here_fits : unsigned_abs here < 2 ^ 49) where
   reach_read : read (read a -ℤ read b) ≡ a -ℤ b
@@ -82,10 +78,6 @@ offset_below a b c d here h k less = omega (arith, ints, h, k, less)
 
 pub offset_above : (a b c d here : ℤ) → b ≤ℤ a → c ≤ℤ d → here <ℤ (b -ℤ d) → here <ℤ (a -ℤ c)
 offset_above a b c d here h k less = omega (arith, ints, h, k, less)
-
--- a coordinate is small
-pub limit_small : (z : ℤ) → IsInLimit z → unsigned_abs z < 2 ^ 24
-limit_small z small = omega arith
 
 -- the ends of a probe are as far right of its way
 pub first_here : (across up x y p_x p_y here : ℤ) → x ≡ p_x → y ≡ p_y → here ≡ up *ℤ x -ℤ across *ℤ y → up *ℤ p_x -ℤ across *ℤ p_y ≡ here

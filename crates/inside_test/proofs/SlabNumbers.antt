@@ -11,7 +11,7 @@ use Rattle.exact_plane.proofs.Registers.{read, short}
 use Rattle.exact_plane.proofs.WideProducts.{product_size}
 use Rattle.inside_test.proofs.Levels.{product_below, quotient_is}
 use Rattle.inside_test.proofs.Multiples.{coordinate_read, greatest_multiple, long_read, multiple_read, multiple_small}
-use Rattle.inside_test.specs.Slab.{IsInSlab, offset, slab_offset}
+use Rattle.inside_test.specs.Slab.{IsBetweenLines, offset, slab_offset}
 use Rattle.inside_test.specs.declared.slab.Slab.{Slab}
 
 -- ---- offsets
@@ -154,13 +154,13 @@ module _ (a u b t x y : ℤ) (rises : pos 0 <ℤ u) where
   at_least_by_other l h = rw back_by_other (less_first _ _ _ (mul_order l _ u (omega (arith, ints, rises)) h))
 
 -- a point is in a slab of the same way between these offsets
-pub in_between : (s r : Slab) (v : Point) → r.across ≡ s.across → r.up ≡ s.up → r.least ≤ℤ slab_offset s v → slab_offset s v ≤ℤ r.greatest → IsInSlab r v
+pub in_between : (s r : Slab) (v : Point) → r.across ≡ s.across → r.up ≡ s.up → r.least ≤ℤ slab_offset s v → slab_offset s v ≤ℤ r.greatest → IsBetweenLines r v
 in_between s r v across up h k =
     let same : slab_offset r v ≡ slab_offset s v = λ i. offset (across i) (up i) v.x v.y in
     record { from = rw same h; to = rw same k }
 
 -- of an upright slab the offsets are the first coordinates
-pub in_upright : (r : Slab) (v : Point) → r.across ≡ pos 0 → r.up ≡ pos 1 → r.least ≤ℤ v.x → v.x ≤ℤ r.greatest → IsInSlab r v
+pub in_upright : (r : Slab) (v : Point) → r.across ≡ pos 0 → r.up ≡ pos 1 → r.least ≤ℤ v.x → v.x ≤ℤ r.greatest → IsBetweenLines r v
 in_upright r v across up h k =
     let same : slab_offset r v ≡ pos 1 *ℤ v.x -ℤ pos 0 *ℤ v.y = λ i. offset (across i) (up i) v.x v.y in
     record { from = rw same (omega (arith, ints, h)); to = rw same (omega (arith, ints, k)) }

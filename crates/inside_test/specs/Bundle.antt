@@ -5,7 +5,7 @@ use Rattle.plane.specs.Point.{IsInBounds, IsInLimit, Point, Triple}
 use Rattle.exact_plane.specs.Boxes.{Encloses}
 use Rattle.exact_plane.specs.declared.bounding_box.BoundingBox.{BoundingBox}
 use Rattle.inside_test.specs.Block.{IsBoxMissed, IsBoxPassed, IsBoxRight, OfAllEnclosed}
-use Rattle.inside_test.specs.Slab.{IsInSlab, offset}
+use Rattle.inside_test.specs.Slab.{IsBetweenLines, offset}
 use Rattle.inside_test.specs.declared.bundle.Bundle.{Bundle}
 use Rattle.inside_test.specs.declared.slab.Slab.{Slab}
 
@@ -13,7 +13,7 @@ use Rattle.inside_test.specs.declared.slab.Slab.{Slab}
 pub record IsInBundle (b : Bundle) (v : Point) : Type 0 where
   pub bounds : IsInBounds v
   pub box : Encloses b.around v
-  pub slab : IsInSlab b.slab v
+  pub slab : IsBetweenLines b.slab v
 
 -- the bundle has the edge from u to v, and no other
 pub record IsBundleOf (b : Bundle) (u v : Point) : Type 0 where
@@ -24,7 +24,7 @@ pub record IsBundleOf (b : Bundle) (u v : Point) : Type 0 where
 
 -- what is in the bundle is in the slab
 abbrev pub HasSlab : Bundle → Slab → Type 0
-HasSlab b slab = (v : Point) → IsInBundle b v → IsInSlab slab v
+HasSlab b slab = (v : Point) → IsInBundle b v → IsBetweenLines slab v
 
 -- what is in the boxes of two bundles is in another box
 pub record IsRoundBoth (a b : Bundle) (around : BoundingBox) : Type 0 where

@@ -13,7 +13,7 @@ abbrev pub slab_offset : Slab → Point → ℤ
 slab_offset slab p = offset slab.across slab.up p.x p.y
 
 -- the point is on one of the lines or between them
-pub record IsInSlab (slab : Slab) (p : Point) : Type 0 where
+pub record IsBetweenLines (slab : Slab) (p : Point) : Type 0 where
   pub from : slab.least ≤ℤ slab_offset slab p
   pub to : slab_offset slab p ≤ℤ slab.greatest
 
@@ -25,10 +25,10 @@ AreBeyond slab p q =
 
 -- all of its points are left of a rational point, along the slab, and all are right of it
 abbrev pub IsSlabLeft : Slab → Triple → Type 0
-IsSlabLeft slab p = (v : Point) → IsInSlab slab v → (slab_offset slab v *ℤ p.W) <ℤ offset slab.across slab.up p.X p.Y
+IsSlabLeft slab p = (v : Point) → IsBetweenLines slab v → (slab_offset slab v *ℤ p.W) <ℤ offset slab.across slab.up p.X p.Y
 
 abbrev pub IsSlabRight : Slab → Triple → Type 0
-IsSlabRight slab p = (v : Point) → IsInSlab slab v → offset slab.across slab.up p.X p.Y <ℤ (slab_offset slab v *ℤ p.W)
+IsSlabRight slab p = (v : Point) → IsBetweenLines slab v → offset slab.across slab.up p.X p.Y <ℤ (slab_offset slab v *ℤ p.W)
 
 -- the point at a place
 abbrev pub at : Place → Point

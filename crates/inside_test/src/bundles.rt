@@ -4,7 +4,7 @@ ghost use Rattle.plane.specs.Point.{Point};
 ghost use Rattle.exact_plane.specs.Boxes.{Encloses};
 ghost use Rattle.inside_test.specs.Bundle.{HasOneMore, HasSlab, IsBundleOf, IsBundleOfBoth};
 ghost use Rattle.inside_test.specs.Probe.{IsApartBundle};
-ghost use Rattle.inside_test.specs.Slab.{IsInSlab, at};
+ghost use Rattle.inside_test.specs.Slab.{IsBetweenLines, at};
 
 use crate::bundle::Bundle;
 use crate::probe::Probe;
@@ -64,7 +64,7 @@ impl Bundle {
     // The edge from `a` to `b`, in a slab round this one.
     fn of(a: &Place, b: &Place, slab: &Slab) -> Bundle
         ensures edge { IsBundleOf result (at a.now) (at b.now) }
-        ensures slab { (v : Point) → IsInSlab slab.now v → IsInSlab result.slab v }
+        ensures slab { (v : Point) → IsBetweenLines slab.now v → IsBetweenLines result.slab v }
     {
         let (low, high) = in_order(a.y, b.y);
         Bundle {

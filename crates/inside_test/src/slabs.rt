@@ -2,7 +2,7 @@
 ghost use Rattle.std.specs.Prelude.{◌≡◌, ◌⊎◌, ◌+◌, ◌<◌, ◌≤◌, ◌^◌, ◌<ℤ◌, ◌≤ℤ◌, ◌+ℤ◌, ◌*ℤ◌, ℤ, IsTrue, pos, unsigned_abs};
 ghost use Rattle.plane.specs.Point.{IsInBounds, Point};
 ghost use Rattle.exact_plane.specs.Boxes.{Encloses};
-ghost use Rattle.inside_test.specs.Slab.{AreBeyond, IsInSlab, at, offset};
+ghost use Rattle.inside_test.specs.Slab.{AreBeyond, IsBetweenLines, at, offset};
 
 use crate::slab::Slab;
 use crate::stretch::{Place, Stretch};
@@ -74,15 +74,15 @@ impl Slab {
 
     // All points of a box, between upright lines.
     pub fn round_box(around: &BoundingBox) -> Slab
-        ensures { (v : Point) → Encloses around.now v → IsInSlab result v }
+        ensures { (v : Point) → Encloses around.now v → IsBetweenLines result v }
     {
         Slab::upright().between(around.west as i64, around.east as i64)
     }
 
     // The slab round its points and one more.
     pub fn with(&self, p: &Place) -> Slab
-        ensures new { IsInSlab result (at p.now) }
-        ensures old { (v : Point) → IsInSlab self.now v → IsInSlab result v }
+        ensures new { IsBetweenLines result (at p.now) }
+        ensures old { (v : Point) → IsBetweenLines self.now v → IsBetweenLines result v }
         ensures across { result.across ≡ self.now.across }
         ensures up { result.up ≡ self.now.up }
     {
@@ -102,8 +102,8 @@ impl Slab {
     pub fn joined(&self, other: &Slab) -> Slab
         requires across { self.now.across ≡ other.now.across }
         requires up { self.now.up ≡ other.now.up }
-        ensures first { (v : Point) → IsInSlab self.now v → IsInSlab result v }
-        ensures second { (v : Point) → IsInSlab other.now v → IsInSlab result v }
+        ensures first { (v : Point) → IsBetweenLines self.now v → IsBetweenLines result v }
+        ensures second { (v : Point) → IsBetweenLines other.now v → IsBetweenLines result v }
     {
         self.between(
             self.least.min(other.least),
@@ -114,7 +114,7 @@ impl Slab {
     // The slab of this way round the points of another that are in a box. Where h is the offset of a point from the way of the other,
     // its offset from this way, times the rise of the other, is h times the rise of this one and a multiple of its height.
     pub fn round_slab(&self, other: &Slab, around: &BoundingBox) -> Slab
-        ensures points { (v : Point) → IsInBounds v → Encloses around.now v → IsInSlab other.now v → IsInSlab result v }
+        ensures points { (v : Point) → IsInBounds v → Encloses around.now v → IsBetweenLines other.now v → IsBetweenLines result v }
         ensures way { result.across ≡ self.now.across }
         ensures rise { result.up ≡ self.now.up }
     {
