@@ -346,11 +346,16 @@ def askew(n: int) -> Ring:
     return [(x - y // 2, x // 2 + y) for x, y in spiral(n)]
 
 
+def sheared(n: int) -> Ring:
+    """The spiral in a parallelogram, whose sides go up and to the right at two slopes. WIDTH is divided by 4."""
+    return [((3 * x + y) // 4, (x + 2 * y) // 4) for x, y in spiral(n)]
+
+
 Shape = Callable[[int], Ring]
 SHAPES: Dict[str, Shape] = {shape.__name__: shape for shape in (comb, star, maze, spiral)}
 SIX_SHAPES: Dict[str, Shape] = SHAPES | {shape.__name__: shape for shape in (convex, moon)}
 MORE_SHAPES: Dict[str, Shape] = SIX_SHAPES | {shape.__name__: shape for shape in (
-    skyline, saw, fan, arch, hourglass, zigzag, slope, wall, fence, turned, askew, broom)}
+    skyline, saw, fan, arch, hourglass, zigzag, slope, wall, fence, turned, askew, sheared, broom)}
 WAYS: Dict[str, Shape] = {'comb': way_along_comb, 'convex': way_across_convex, 'saw': way_past_teeth}
 
 
