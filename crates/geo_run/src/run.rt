@@ -102,7 +102,7 @@ pub fn geo_main<S: Source, K: Sink>(
 
 /// Answers the records of a script in turn, each as soon as it is read. For B bytes it takes at most `script_steps` B steps, and 16
 /// for each byte of the output: with n the least of 16,384 and B / 4, and b the number of its binary digits, the first are
-/// (B + 1) ((29 b b + 640) n n + 1,300 n (b + 2) + 4,200).
+/// (B + 1) ((29 b b + 64) n n + 1,300 n (b + 2) + 4,200).
 pub fn answer_script<K: Sink, L: Ledger>(
     alloc: Global,
     bytes: &[u8],

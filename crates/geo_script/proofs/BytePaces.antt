@@ -24,11 +24,11 @@ at_most_square (suc n) = omega arith
 
 -- more vertices, more steps
 more_steps : (n b most digits : ℕ) → n ≤ most → b ≤ digits
-    → (29 * (b * b) + 640) * (n * n) + 1300 * (n * (b + 2)) + 4200 ≤ (29 * (digits * digits) + 640) * (most * most) + 1300 * (most * (digits + 2)) + 4200
+    → (29 * (b * b) + 64) * (n * n) + 1300 * (n * (b + 2)) + 4200 ≤ (29 * (digits * digits) + 64) * (most * most) + 1300 * (most * (digits + 2)) + 4200
 more_steps n b most digits few short =
     let squares : b * b ≤ digits * digits = mul-le b b digits digits short short in
     let pairs : n * n ≤ most * most = mul-le n n most most few few in
-    let front : (29 * (b * b) + 640) * (n * n) ≤ (29 * (digits * digits) + 640) * (most * most) = mul-le _ (n * n) _ (most * most) (omega (arith, squares)) pairs in
+    let front : (29 * (b * b) + 64) * (n * n) ≤ (29 * (digits * digits) + 64) * (most * most) = mul-le _ (n * n) _ (most * most) (omega (arith, squares)) pairs in
     let back : n * (b + 2) ≤ most * (digits + 2) = mul-le n (b + 2) most (digits + 2) few (omega (arith, short)) in
     omega (arith, front, back)
 
@@ -39,7 +39,7 @@ byte_steps_mono n most few = more_steps n (binary_digits n) most (binary_digits 
 
 -- so many with b digits
 abbrev pub steps_at : ℕ → ℕ → ℕ
-steps_at n b = (29 * (b * b) + 640) * (n * n) + 1300 * (n * (b + 2)) + 4200
+steps_at n b = (29 * (b * b) + 64) * (n * n) + 1300 * (n * (b + 2)) + 4200
 
 -- a polygon
 pub polygon_at : (k b : ℕ) → 214 * (k * k) + 1400 * (k * (b + 4)) + (192 * k + 200 * k * b) ≤ (8 + 4 * k) * steps_at k b
@@ -48,11 +48,13 @@ polygon_at k b =
     omega (arith, all)
 
 -- a list of m points
-pub check_at : (n b m : ℕ) → (2560 * (n * n) + 5100 * (n * (b + 2))) * m + 800 * (n * (b + 4)) ≤ (6 + 4 * m) * steps_at n b
-check_at n b m =
-    let each : 2560 * (n * n) + 5100 * (n * (b + 2)) ≤ 4 * steps_at n b = omega arith in
-    let all : (2560 * (n * n) + 5100 * (n * (b + 2))) * m ≤ 4 * steps_at n b * m = mul-le _ m _ m each (omega arith) in
-    omega (arith, all)
+pub check_at : (n b m : ℕ) → m ≤ 16384 → (5302 * n + 8) * m + (binary_digits m + 1) * (5300 * n + m) ≤ (6 + 4 * m) * steps_at n b
+check_at n b m few =
+    let rounds : (binary_digits m + 1) * (5300 * n + m) ≤ (m + 1) * (5300 * n + m) =
+    mul-le (binary_digits m + 1) (5300 * n + m) (m + 1) (5300 * n + m) (omega (arith, few_digits m)) (omega arith) in
+    let each : 10602 * n + 8 + (m + 1) ≤ 4 * steps_at n b = omega (arith, few, at_most_square n) in
+    let all : (10602 * n + 8 + (m + 1)) * m ≤ 4 * steps_at n b * m = mul-le _ m _ m each (omega arith) in
+    omega (arith, rounds, all)
 
 pub tree_at : (n b : ℕ) → 3 * n + 200 * n * (b * b) ≤ 9 * steps_at n b
 tree_at n b =

@@ -66,7 +66,7 @@ command_paced seen n (command.Polygon points) kept sized within =
     raised _ (8 + 4 * k) (byte_steps k) (byte_steps n) (polygon_at k (binary_digits k)) (byte_steps_mono k n within)
 command_paced seen n (command.Check points) kept sized within =
     let k = size_of seen.state.kept in
-    raised _ (6 + 4 * length points) (byte_steps k) (byte_steps n) (check_at k (binary_digits k) (length points)) (byte_steps_mono k n kept)
+    raised _ (6 + 4 * length points) (byte_steps k) (byte_steps n) (check_at k (binary_digits k) (length points) sized.1) (byte_steps_mono k n kept)
 command_paced seen n (command.Path s t) kept sized within =
     let k = size_of seen.state.kept in
     let pace = pace_within seen.state.version 16 36 36 (omega arith) (omega arith) in

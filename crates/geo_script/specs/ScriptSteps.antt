@@ -12,7 +12,7 @@ use Rattle.geo_session.specs.Prepared.{Seen}
 -- so many steps a byte of a record are enough before a line of its answer is written, where no polygon has more than n vertices; b is the
 -- number of the binary digits of n
 abbrev pub byte_steps : ℕ → ℕ
-byte_steps n = let b = binary_digits n in (29 * (b * b) + 640) * (n * n) + 1300 * (n * (b + 2)) + 4200
+byte_steps n = let b = binary_digits n in (29 * (b * b) + 64) * (n * n) + 1300 * (n * (b + 2)) + 4200
 
 -- no polygon in a text of so many bytes has more vertices: each number takes two bytes
 abbrev pub corners_within : ℕ → ℕ

@@ -9,6 +9,7 @@ mod GivenSides
 mod GivenSights
 mod Guarded
 mod Judged
+mod SeenAlong
 mod Places
 mod LocatedIn
 mod AskedVertices
@@ -18,10 +19,12 @@ mod WalkedNames
 mod AlonePath
 mod ReachedNames
 mod Befores
+mod BentPairs
 mod PairPaths
 mod SortedPairs
 mod TurnedPairs
 mod Spanned
+mod HalvedLists
 mod HullSteps
 mod HullRows
 mod HullTable

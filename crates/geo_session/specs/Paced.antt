@@ -37,9 +37,9 @@ guards_steps n = 24 * (n * n)
 abbrev pub inside_steps : ℕ → ℕ
 inside_steps n = 1280 * n + 65
 
--- to check a list of points: each of them for itself,
+-- to check a list of m points: each of them for itself, and before by a search by halves for a part that is a path,
 abbrev pub check_steps : ℕ → ℕ → ℕ
-check_steps n m = let b = binary_digits n in (2560 * (n * n) + 5100 * (n * (b + 2))) * m + 800 * (n * (b + 4))
+check_steps n m = (5302 * n + 8) * m + (binary_digits m + 1) * (5300 * n + m)
 
 -- to find a relative hull: the paths between each two of its m points, which are compared, and what is told of its sides,
 abbrev pub hull_steps : Version → ℕ → ℕ → ℕ

@@ -1,14 +1,12 @@
 // The triangulated polygon.
 ghost use Rattle.std.specs.Prelude.{◌≡◌, ◌+◌, ◌-◌, ◌*◌, ◌≤◌, false, true, IfOk, None, Some, length};
-ghost use Rattle.plane.specs.declared.limits.TheConstants.{MAX_CHAIN};
 ghost use Rattle.rings.specs.Kernel.{IsKernel};
 ghost use Rattle.meshes.specs.Fits.{Fits};
 ghost use Rattle.ring_check.specs.Oriented.{given_of};
-ghost use Rattle.taut_check.specs.Verdict.{IsVerdict};
 ghost use Rattle.pair_cut.specs.Pairs.{IsMadeFor};
 ghost use Rattle.geo_session.specs.Guards.{GuardRing};
 ghost use Rattle.geo_session.specs.Held.{IsLocated, IsTreeOf, IsViewReply};
-ghost use Rattle.geo_session.specs.Paced.{check_steps, guards_steps, inside_steps, kernel_steps, mesh_steps, view_steps};
+ghost use Rattle.geo_session.specs.Paced.{guards_steps, inside_steps, kernel_steps, mesh_steps, view_steps};
 ghost use Rattle.geo_session.specs.Place.{IsPlace};
 ghost use Rattle.geo_session.specs.Told.{Tells};
 
@@ -29,7 +27,6 @@ use std::alloc::Global;
 use std::marker::Model;
 use std::sync::ledger::Ledger;
 use sweep_tri::sweep_ring;
-use taut_check::{Verdict, check};
 use tri_mesh::Mesh;
 
 // A triangulated polygon: a ring, with a mesh that fits it, the tree of a source in it, if there is one, and the table of the
@@ -111,20 +108,6 @@ impl Held {
         ensures steps { steps.new ≤ steps.old + inside_steps (length self.now.ring.corners) }
     {
         place(&self.ring, point, steps)
-    }
-
-    // The verdict on a list of points.
-    pub(crate) fn judge<L: Ledger>(
-        &self,
-        alloc: Global,
-        points: &[Pt],
-        steps: &mut Steps<L>,
-    ) -> Result<Verdict, Memory>
-        requires { length points.now ≤ MAX_CHAIN }
-        ensures verdict { IfOk result (IsVerdict (given_of self.now.ring) points.now) }
-        ensures steps { steps.new ≤ steps.old + check_steps (length self.now.ring.corners) (length points.now) }
-    {
-        check(alloc, &self.ring, points, steps)
     }
 
     // What a point sees of the edges.

@@ -123,7 +123,7 @@ impl Held {
     }
 
     // The taut chain from one point to another along a sleeve. It takes all its memory before the walk.
-    fn chain_along<L: Ledger>(
+    pub(crate) fn chain_along<L: Ledger>(
         &self,
         alloc: Global,
         sleeve: &Sleeve,

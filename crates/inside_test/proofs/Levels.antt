@@ -27,7 +27,7 @@ quotient_is (negsuc n) (pos (suc k)) h = record { positive = h; whole = omega (a
 quotient_is part (negsuc k) h = absurd (omega (arith, ints))
 
 -- products by a positive number, where the first factors differ
-pub product_below : (z q w : ℤ) → z <ℤ q → pos 0 <ℤ w → (z *ℤ w +ℤ w) ≤ℤ (q *ℤ w)
+product_below : (z q w : ℤ) → z <ℤ q → pos 0 <ℤ w → (z *ℤ w +ℤ w) ≤ℤ (q *ℤ w)
 product_below z q w h positive =
     let less : pos 0 ≤ℤ ((q -ℤ z -ℤ pos 1) *ℤ w) = mul_nonnegative _ w (omega (arith, ints)) (omega (arith, ints)) in
     let is : (q -ℤ z -ℤ pos 1) *ℤ w ≡ q *ℤ w -ℤ z *ℤ w -ℤ w =

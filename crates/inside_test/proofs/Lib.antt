@@ -1,20 +1,13 @@
+mod Adjacent
 mod ApartEdges
 mod Blocks
 mod CrossedEdges
-mod Heights
 mod Levels
 mod Meetings
-mod Multiples
-mod Adjacent
 mod Neighbours
 mod Odd
 mod Passed
-pub mod Passing
 mod PointLists
-mod ProbeNumbers
 mod Sizes
-mod SlabNumbers
-mod BesideSlabs
 mod Sorting
-mod Told
 mod Touched

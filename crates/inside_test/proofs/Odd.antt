@@ -30,7 +30,7 @@ not_other true = refl
 not_other false = refl
 
 -- and with two, one after the other
-pub differ_assoc : (a b c : Bool) → not (beq (not (beq a b)) c) ≡ not (beq a (not (beq b c)))
+differ_assoc : (a b c : Bool) → not (beq (not (beq a b)) c) ≡ not (beq a (not (beq b c)))
 differ_assoc true true true = refl
 differ_assoc true true false = refl
 differ_assoc true false true = refl
@@ -46,7 +46,7 @@ module _ (ring : List Point) (p : Triple) where
   odd_start = record { on_none = λ on. on; odd = (λ e. cc, λ e. cc) }
 
   -- edge i, which the point is not on
-  pub odd_step : (i : ℕ) (is_odd : Bool) → i < length ring → OddSoFar (take i (edges_of ring)) p is_odd → (IsOnEdge ring i p → ⊥)
+  odd_step : (i : ℕ) (is_odd : Bool) → i < length ring → OddSoFar (take i (edges_of ring)) p is_odd → (IsOnEdge ring i p → ⊥)
       → OddSoFar (take (i + 1) (edges_of ring)) p (not (beq is_odd (is_crossed (edge_at ring i) p)))
   odd_step i is_odd within before beside = record {
     on_none = λ on. elim ((on_some_more ring i within p).0 on) [ inl earlier ↦ before.on_none earlier | inr here ↦ beside here ];
@@ -64,12 +64,6 @@ module _ (ring : List Point) (p : Triple) where
       subst (OddSoFar (take (i + 1) (edges_of ring)) p)
       (ap (λ b. not (beq (not (beq is_odd odd)) b)) is ∙ differ_assoc is_odd odd crossed ∙ ap (λ b. not (beq is_odd b)) (sym e))
       (odd_step i (not (beq is_odd odd)) within (over is_odd before) beside)
-
-  -- over edges and those that follow them, as many as over both
-  pub over_both : (first middle end : ℕ) (odd more : Bool) → IsOddOver ring first middle p odd → IsOddOver ring middle end p more
-      → IsOddOver ring first end p (not (beq odd more))
-  over_both first middle end odd more before after is_odd start =
-      subst (OddSoFar (take end (edges_of ring)) p) (differ_assoc is_odd odd more) (after (not (beq is_odd odd)) (before is_odd start))
 
   -- all edges
   pub odd_end : (i : ℕ) (is_odd : Bool) → length ring ≡ i → OddSoFar (take i (edges_of ring)) p is_odd → OddSoFar (edges_of ring) p is_odd

@@ -5,7 +5,7 @@ use Rattle.std.specs.Int.Signed.{le_z, lt_z}
 use Rattle.std.specs.Prelude.{◌&&◌}
 use Rattle.integer_algebra.proofs.Laws.{mul_comm, zero-mul}
 use Rattle.integer_algebra.proofs.Polynomial.{var, lit, ◌⊕◌, ◌⊖◌, ◌⊗◌, same_value}
-use Rattle.integer_algebra.proofs.SignSteps.{weak, without_less}
+use Rattle.integer_algebra.proofs.SignSteps.{difference_positive, weak, without_less}
 use Rattle.integer_algebra.proofs.Signs.{cancel_equal, factor_negative, factor_positive, le_unless, mul_nonpositive, mul_nonpositives, mul_positive}
 use Rattle.plane.proofs.Points.{whole_is_point}
 use Rattle.plane.proofs.Segments.{on_is_straight, on_reversed}
@@ -65,42 +65,6 @@ beside_is a b p =
     ((var 0 ⊗ var 6 ⊖ var 4) ⊗ (var 3 ⊗ var 6 ⊖ var 5) ⊖ (var 2 ⊗ var 6 ⊖ var 4) ⊗ (var 1 ⊗ var 6 ⊖ var 5))
     (a.x ∷ a.y ∷ b.x ∷ b.y ∷ p.X ∷ p.Y ∷ p.W ∷ []) refl
 
--- how far right of the point a vertex is, by its weight; or along a way that goes so far across where it goes so far upward
-abbrev pub side : ℤ → ℤ → Point → Triple → ℤ
-side across up v p = (up *ℤ v.x -ℤ across *ℤ v.y) *ℤ p.W -ℤ (up *ℤ p.X -ℤ across *ℤ p.Y)
-
--- the determinant is the same by all of them
-pub side_is : (across up : ℤ) (a b : Point) (p : Triple) → (up *ℤ p.W) *ℤ determinant (whole a) (whole b) p
-    ≡ side across up a p *ℤ (b.y *ℤ p.W -ℤ p.Y) -ℤ side across up b p *ℤ (a.y *ℤ p.W -ℤ p.Y)
-side_is across up a b p =
-    let one = lit (pos 1) in
-    same_value ((var 8 ⊗ var 6) ⊗ written_determinant (var 0) (var 1) one (var 2) (var 3) one (var 4) (var 5) (var 6))
-    (((var 8 ⊗ var 0 ⊖ var 7 ⊗ var 1) ⊗ var 6 ⊖ (var 8 ⊗ var 4 ⊖ var 7 ⊗ var 5)) ⊗ (var 3 ⊗ var 6 ⊖ var 5)
-    ⊖ ((var 8 ⊗ var 2 ⊖ var 7 ⊗ var 3) ⊗ var 6 ⊖ (var 8 ⊗ var 4 ⊖ var 7 ⊗ var 5)) ⊗ (var 1 ⊗ var 6 ⊖ var 5))
-    (a.x ∷ a.y ∷ b.x ∷ b.y ∷ p.X ∷ p.Y ∷ p.W ∷ across ∷ up ∷ []) refl
-
--- that along an upright way
-across_side : (v : Point) (p : Triple) → side (pos 0) (pos 1) v p ≡ v.x *ℤ p.W -ℤ p.X
-across_side v p =
-    let none = lit (pos 0) in
-    let one = lit (pos 1) in
-    same_value ((one ⊗ var 0 ⊖ none ⊗ var 1) ⊗ var 4 ⊖ (one ⊗ var 2 ⊖ none ⊗ var 3)) (var 0 ⊗ var 4 ⊖ var 2)
-    (v.x ∷ v.y ∷ p.X ∷ p.Y ∷ p.W ∷ []) refl
-
--- signs of differences
-pub less_side : (s a b : ℤ) → s ≡ a -ℤ b → a <ℤ b → s <ℤ pos 0
-less_side s a b e h = omega (arith, ints)
-
-pub more_side : (s a b : ℤ) → s ≡ a -ℤ b → b <ℤ a → pos 0 <ℤ s
-more_side s a b e h = omega (arith, ints)
-
-module _ (v : Point) (p : Triple) where
-  pub left_side : (v.x *ℤ p.W) <ℤ p.X → side (pos 0) (pos 1) v p <ℤ pos 0
-  left_side = less_side _ _ _ (across_side v p)
-
-  pub right_side : p.X <ℤ (v.x *ℤ p.W) → pos 0 <ℤ side (pos 0) (pos 1) v p
-  right_side = more_side _ _ _ (across_side v p)
-
 -- a number with a positive factor is 0 where its product is a difference of numbers that are 0
 pub no_difference : (k d m n : ℤ) → pos 0 <ℤ k → k *ℤ d ≡ m -ℤ n → m ≡ pos 0 → n ≡ pos 0 → d ≡ pos 0
 no_difference k d m n positive e m_zero n_zero = cancel_equal d (pos 0) k positive (omega (arith, ints))
@@ -116,32 +80,25 @@ rises_high low high y h = grind (arith, ints)
 pub not_falling : (low high y : ℤ) → IsTrue (le_z low y && lt_z y high) → (le_z high y && lt_z y low) ≡ false
 not_falling low high y h = grind (arith, ints)
 
+difference_negative : (a b : ℤ) → a <ℤ b → (a -ℤ b) <ℤ pos 0
+difference_negative a b h = omega (arith, ints)
+
 module _ (low high : Point) (p : Triple) (at_p : IsPoint p) (rise : IsTrue (rises low high p)) where
-  module _ (across up : ℤ) (rises : pos 0 <ℤ up) where
-    -- to the left, where both ends are to the right along a way that goes upward,
-    pub left_of_sides : pos 0 <ℤ side across up low p → pos 0 <ℤ side across up high p → Left ≡ turn_of (whole low) (whole high) p
-    left_of_sides first last =
-        let sign =
-        positive_beside (side across up low p) (low.y *ℤ p.W -ℤ p.Y) (side across up high p) (high.y *ℤ p.W -ℤ p.Y)
-        (rises_low (low.y *ℤ p.W) (high.y *ℤ p.W) p.Y rise) (rises_high (low.y *ℤ p.W) (high.y *ℤ p.W) p.Y rise) first last in
-        sym (left_of_positive _ (factor_positive (up *ℤ p.W) (determinant (whole low) (whole high) p) (mul_positive up p.W rises at_p)
-        (rw (side_is across up low high p) sign)))
-
-    -- to the right, where both are to the left
-    pub right_of_sides : side across up low p <ℤ pos 0 → side across up high p <ℤ pos 0 → Right ≡ turn_of (whole low) (whole high) p
-    right_of_sides first last =
-        let sign =
-        negative_beside (side across up low p) (low.y *ℤ p.W -ℤ p.Y) (side across up high p) (high.y *ℤ p.W -ℤ p.Y)
-        (rises_low (low.y *ℤ p.W) (high.y *ℤ p.W) p.Y rise) (rises_high (low.y *ℤ p.W) (high.y *ℤ p.W) p.Y rise) first last in
-        sym (right_of_negative _ (factor_negative (up *ℤ p.W) (determinant (whole low) (whole high) p) (mul_positive up p.W rises at_p)
-        (rw (side_is across up low high p) sign)))
-
-  -- so they are where both ends are right of the point, and where both are left of it
+  -- to the left, where both ends are right of the point,
   pub left_of_rise : p.X <ℤ (low.x *ℤ p.W) → p.X <ℤ (high.x *ℤ p.W) → Left ≡ turn_of (whole low) (whole high) p
-  left_of_rise first last = left_of_sides (pos 0) (pos 1) (omega (arith, ints)) (right_side low p first) (right_side high p last)
+  left_of_rise first last =
+      let sign =
+      positive_beside (low.x *ℤ p.W -ℤ p.X) (low.y *ℤ p.W -ℤ p.Y) (high.x *ℤ p.W -ℤ p.X) (high.y *ℤ p.W -ℤ p.Y)
+      (rises_low (low.y *ℤ p.W) (high.y *ℤ p.W) p.Y rise) (rises_high (low.y *ℤ p.W) (high.y *ℤ p.W) p.Y rise) (difference_positive first) (difference_positive last) in
+      sym (left_of_positive _ (factor_positive p.W (determinant (whole low) (whole high) p) at_p (rw (beside_is low high p) sign)))
 
+  -- to the right, where both are left of it
   pub right_of_rise : (low.x *ℤ p.W) <ℤ p.X → (high.x *ℤ p.W) <ℤ p.X → Right ≡ turn_of (whole low) (whole high) p
-  right_of_rise first last = right_of_sides (pos 0) (pos 1) (omega (arith, ints)) (left_side low p first) (left_side high p last)
+  right_of_rise first last =
+      let sign =
+      negative_beside (low.x *ℤ p.W -ℤ p.X) (low.y *ℤ p.W -ℤ p.Y) (high.x *ℤ p.W -ℤ p.X) (high.y *ℤ p.W -ℤ p.Y)
+      (rises_low (low.y *ℤ p.W) (high.y *ℤ p.W) p.Y rise) (rises_high (low.y *ℤ p.W) (high.y *ℤ p.W) p.Y rise) (difference_negative _ _ first) (difference_negative _ _ last) in
+      sym (right_of_negative _ (factor_negative p.W (determinant (whole low) (whole high) p) at_p (rw (beside_is low high p) sign)))
 
   -- ---- the points on the edge
 

@@ -21,14 +21,6 @@ IsBoxLeft b p = OfAllEnclosed b (λ v. (v.x *ℤ p.W) <ℤ p.X)
 abbrev pub IsBoxRight : BoundingBox → Triple → Type 0
 IsBoxRight b p = OfAllEnclosed b (λ v. p.X <ℤ (v.x *ℤ p.W))
 
--- they are all above the point, or all below it
-abbrev pub IsBoxOffHeight : BoundingBox → Triple → Type 0
-IsBoxOffHeight b p = IsBoxAbove b p ⊎ IsBoxBelow b p
-
 -- the ray from the point to the right has none of them beside it or ahead
 abbrev pub IsBoxMissed : BoundingBox → Triple → Type 0
-IsBoxMissed b p = IsBoxOffHeight b p ⊎ IsBoxLeft b p
-
--- each edge in the box is crossed exactly where one of its ends is above the point, and has it not on it
-abbrev pub IsBoxPassed : BoundingBox → Triple → Type 0
-IsBoxPassed b p = IsBoxOffHeight b p ⊎ IsBoxRight b p
+IsBoxMissed b p = IsBoxAbove b p ⊎ IsBoxBelow b p ⊎ IsBoxLeft b p

@@ -1,8 +1,7 @@
 -- How a rational number compares with whole numbers, and a rational point with vertices. This project's own. No public clause
 -- cites this module.
-use Rattle.std.specs.Prelude.{◌≡◌, ◌↔◌, ℤ, ◌*ℤ◌, ◌<ℤ◌, pos}
+use Rattle.std.specs.Prelude.{◌↔◌, ℤ, ◌*ℤ◌, ◌<ℤ◌}
 use Rattle.plane.specs.Point.{IsInLimit, Triple}
-use Rattle.inside_test.specs.declared.hom_parts.HomParts.{HomParts}
 use Rattle.inside_test.specs.declared.level.Level.{Level}
 use Rattle.inside_test.specs.declared.level.Levels.{Levels}
 
@@ -11,15 +10,7 @@ pub record IsLevel (level : Level) (part weight : ℤ) : Type 0 where
   pub below : (z : ℤ) → IsInLimit z → (level.floor <ℤ z) ↔ (part <ℤ (z *ℤ weight))
   pub above : (z : ℤ) → IsInLimit z → (z <ℤ level.ceiling) ↔ ((z *ℤ weight) <ℤ part)
 
--- these are the parts of the point p
-pub record ArePartsOf (parts : HomParts) (p : Triple) : Type 0 where
-  pub x : parts.x ≡ p.X
-  pub y : parts.y ≡ p.Y
-  pub weight : parts.weight ≡ p.W
-  pub positive : pos 0 <ℤ p.W
-
 -- the levels are those of the point p
 pub record AreLevels (levels : Levels) (p : Triple) : Type 0 where
   pub across : IsLevel levels.across p.X p.W
   pub height : IsLevel levels.height p.Y p.W
-  pub parts : ArePartsOf levels.parts p

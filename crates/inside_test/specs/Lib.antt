@@ -1,10 +1,6 @@
 pub mod Apart
 pub mod Block
 pub mod Breakpoints
-pub mod Bundle
 pub mod Level
 pub mod Meeting
 pub mod Odd
-pub mod Probe
-pub mod Runs
-pub mod Slab

@@ -1,5 +1,5 @@
 -- Counting crossed edges by a parity. This project's own. No public clause cites this module.
-use Rattle.std.specs.Prelude.{◌≡◌, ◌↔◌, ◌%◌, ◌<◌, ◌≤◌, ℕ, Bool, true, not, List, length, take}
+use Rattle.std.specs.Prelude.{◌≡◌, ◌↔◌, ◌%◌, ℕ, Bool, true, not, List, take}
 use Rattle.std.specs.Bool.{beq}
 use Rattle.plane.specs.Point.{IsPoint, Point, Triple}
 use Rattle.rings.specs.Edge.{Edge, IsOnSome, edges_of}
@@ -20,9 +20,3 @@ IsOddOver ring first end p odd =
 -- so it is for a point with these levels
 abbrev pub IsOddTo : List Point → Levels → ℕ → ℕ → Bool → Type 0
 IsOddTo ring levels first end odd = (p : Triple) → AreLevels levels p → IsPoint p → IsOddOver ring first end p odd
-
--- the same, and there are such edges
-pub record IsOddAhead (ring : List Point) (levels : Levels) (first end : ℕ) (odd : Bool) : Type 0 where
-  pub later : first < end
-  pub within : end ≤ length ring
-  pub over : IsOddTo ring levels first end odd

@@ -1,17 +1,10 @@
 // A rational number among the whole numbers, and a rational point among the vertices.
 ghost use Rattle.std.specs.Int.{int_div_euclid};
-ghost use Rattle.std.specs.Prelude.{◌≡◌, ◌↔◌, ◌+◌, ◌<◌, ◌≤◌, ◌^◌, ◌<ℤ◌, ◌≤ℤ◌, ◌*ℤ◌, ℤ, IfSome, IsTrue, pos, unsigned_abs};
+ghost use Rattle.std.specs.Prelude.{◌≡◌, ◌↔◌, ◌+◌, ◌<◌, ◌≤◌, ◌^◌, ◌<ℤ◌, ◌≤ℤ◌, ◌*ℤ◌, ℤ, IsTrue, pos, unsigned_abs};
 ghost use Rattle.plane.specs.Point.{IsInLimit, IsPoint, IsSame, Triple, whole};
-ghost use Rattle.inside_test.specs.Block.{IsBoxMissed, IsBoxOffHeight, IsBoxPassed, IsBoxRight};
-ghost use Rattle.inside_test.specs.Bundle.{IsBundlePassed, IsBundleRight, IsTold};
-ghost use Rattle.inside_test.specs.Level.{AreLevels, ArePartsOf, IsLevel};
-ghost use Rattle.inside_test.specs.Runs.{AllTell, IsEachBundle};
-ghost use Rattle.inside_test.specs.Slab.{IsSlabLeft, IsSlabRight, offset};
+ghost use Rattle.inside_test.specs.Block.{IsBoxMissed, IsBoxRight};
+ghost use Rattle.inside_test.specs.Level.{AreLevels, IsLevel};
 
-use crate::bundle::Bundle;
-use crate::hom_parts::HomParts;
-use crate::runs::Run;
-use crate::slab::Slab;
 use exact_plane::{BoundingBox, Hom, Pt, Steps};
 use std::sync::ledger::Ledger;
 
@@ -60,21 +53,6 @@ impl Level {
         self.floor < z as i64
     }
 
-    // Whether it is at the first of two numbers or above it, and below the second.
-    fn is_between(&self, low: i64, high: i64) -> bool
-        ensures from { IsTrue result → (part weight y : ℤ) → IsLevel self.now part weight → IsInLimit y → y ≤ℤ low → (y *ℤ weight) ≤ℤ part }
-        ensures below { IsTrue result → (part weight y : ℤ) → IsLevel self.now part weight → IsInLimit y → high ≤ℤ y → part <ℤ (y *ℤ weight) }
-    {
-        low <= self.floor && self.floor < high
-    }
-
-    // Whether it is at this number or above it, so not below any coordinate up to it.
-    fn is_from(&self, z: i32) -> bool
-        ensures { IsTrue result → (part weight y : ℤ) → IsLevel self.now part weight → IsInLimit y → y ≤ℤ z → (y *ℤ weight) ≤ℤ part }
-    {
-        z as i64 <= self.floor
-    }
-
     // Whether it is above all coordinates up to this number.
     fn is_above_to(&self, z: i32) -> bool
         ensures { IsTrue result → (part weight y : ℤ) → IsLevel self.now part weight → IsInLimit y → y ≤ℤ z → (y *ℤ weight) <ℤ part }
@@ -110,44 +88,11 @@ fn quotient(part: i128, weight: i128) -> i128
     }
 }
 
-impl HomParts {
-    // Whether all points of a slab are left of it, along the slab.
-    fn is_past(&self, slab: &Slab) -> bool
-        ensures { IsTrue result → (p : Triple) → ArePartsOf self.now p → IsSlabLeft slab.now p }
-    {
-        self.weighed(slab.greatest) < self.offset(slab)
-    }
-
-    // Whether all of them are right of it.
-    fn is_before(&self, slab: &Slab) -> bool
-        ensures { IsTrue result → (p : Triple) → ArePartsOf self.now p → IsSlabRight slab.now p }
-    {
-        self.offset(slab) < self.weighed(slab.least)
-    }
-
-    // How far right of a slab's way it is, by its weight.
-    fn offset(&self, slab: &Slab) -> i128
-        ensures value { result ≡ offset slab.now.across slab.now.up self.now.x self.now.y }
-        ensures fits { unsigned_abs result < 2 ^ 101 }
-    {
-        slab.up as i128 * self.x - slab.across as i128 * self.y
-    }
-
-    // A number with the weight.
-    fn weighed(&self, z: i64) -> i128
-        requires { unsigned_abs z ≤ 2 ^ 40 }
-        ensures { result ≡ z *ℤ self.now.weight }
-    {
-        z as i128 * self.weight as i128
-    }
-}
-
-// The levels of a rational point: of x, and of its height; and its parts.
+// The levels of a rational point: of x, and of its height.
 #[derive(Clone, Copy)]
 pub(crate) struct Levels {
     pub across: Level,
     pub height: Level,
-    pub parts: HomParts,
 }
 
 impl Levels {
@@ -162,11 +107,6 @@ impl Levels {
         Levels {
             across: Level::of(x, w),
             height: Level::of(y, w),
-            parts: HomParts {
-                x,
-                y,
-                weight: w as i64,
-            },
         }
     }
 
@@ -202,18 +142,13 @@ impl Levels {
         self.across.is_above(v.parts(steps).0)
     }
 
-    // Whether all that is in this box is above the point, or below it.
-    fn is_off_height(&self, around: &BoundingBox) -> bool
-        ensures { IsTrue result → (p : Triple) → AreLevels self.now p → IsBoxOffHeight around.now p }
-    {
-        self.height.is_below_from(around.south) || self.height.is_above_to(around.north)
-    }
-
     // Whether all that is in this box is above the point, below it or left of it: a ray to the right misses it.
     pub(crate) fn misses(&self, around: &BoundingBox) -> bool
         ensures { IsTrue result → (p : Triple) → AreLevels self.now p → IsBoxMissed around.now p }
     {
-        self.is_off_height(around) || self.across.is_above_to(around.east)
+        self.height.is_below_from(around.south)
+            || self.height.is_above_to(around.north)
+            || self.across.is_above_to(around.east)
     }
 
     // Whether all of the box is right of the point.
@@ -221,121 +156,6 @@ impl Levels {
         ensures { IsTrue result → (p : Triple) → AreLevels self.now p → IsBoxRight around.now p }
     {
         self.across.is_below_from(around.west)
-    }
-
-    // Whether all of the box is above the point, below it or right of it: then each edge in it is crossed exactly where one of
-    // its ends is above the point.
-    fn passes(&self, around: &BoundingBox) -> bool
-        ensures { IsTrue result → (p : Triple) → AreLevels self.now p → IsBoxPassed around.now p }
-    {
-        self.is_off_height(around) || self.is_left_of_all(around)
-    }
-
-    // Whether an odd number of a bundle's edges is crossed, where its box and its heights tell.
-    fn odd_of(&self, bundle: &Bundle) -> Option<bool>
-        ensures { IfSome result (λ odd. (p : Triple) → AreLevels self.now p → IsTold bundle.now p odd) }
-    {
-        if self.misses(&bundle.around) {
-            return Some(false);
-        }
-        if self.is_left_of_all(&bundle.around) {
-            return self.odd_at_height(bundle);
-        }
-        None
-    }
-
-    // The same by its box or its slab.
-    fn odd_by_slab(&self, bundle: &Bundle) -> Option<bool>
-        ensures { IfSome result (λ odd. (p : Triple) → AreLevels self.now p → IsTold bundle.now p odd) }
-    {
-        if let Some(odd) = self.odd_of(bundle) {
-            return Some(odd);
-        }
-        if self.parts.is_past(&bundle.slab) {
-            return Some(false);
-        }
-        if self.parts.is_before(&bundle.slab) {
-            return self.odd_at_height(bundle);
-        }
-        None
-    }
-
-    // The same by the heights, where the box or the slab is right of the point.
-    fn odd_at_height(&self, bundle: &Bundle) -> Option<bool>
-        requires { (p : Triple) → AreLevels self.now p → IsBundleRight bundle.now p }
-        ensures { IfSome result (λ odd. (p : Triple) → AreLevels self.now p → IsTold bundle.now p odd) }
-    {
-        if self.height.is_between(bundle.low, bundle.high) {
-            return Some(bundle.is_odd);
-        }
-        if self.height.is_from(bundle.around.north) {
-            return Some(false);
-        }
-        None
-    }
-
-    // Whether an odd number of a run's edges is, where the box of each of its bundles tells.
-    pub(crate) fn odd_of_all(&self, run: &Run) -> Option<bool>
-        ensures { IfSome result (λ odd. (p : Triple) → AreLevels self.now p → AllTell run.now p odd) }
-    {
-        let east = self.odd_of(&run.eastward)?;
-        let north = self.odd_of(&run.northward)?;
-        let west = self.odd_of(&run.westward)?;
-        let south = self.odd_of(&run.southward)?;
-        Some((east != north) != (west != south))
-    }
-
-    // The same, where the box or the slab of each tells.
-    #[inline(never)]
-    pub(crate) fn odd_by_slabs(&self, run: &Run) -> Option<bool>
-        ensures { IfSome result (λ odd. (p : Triple) → AreLevels self.now p → AllTell run.now p odd) }
-    {
-        let east = self.odd_by_slab(&run.eastward)?;
-        let north = self.odd_by_slab(&run.northward)?;
-        let west = self.odd_by_slab(&run.westward)?;
-        let south = self.odd_by_slab(&run.southward)?;
-        Some((east != north) != (west != south))
-    }
-
-    // Whether it passes each bundle of a run: by the boxes, or where edges lean side by side by the slabs.
-    pub(crate) fn passes_run(&self, run: &Run) -> bool
-        ensures { IsTrue result → (p : Triple) → AreLevels self.now p → IsEachBundle run.now (λ b. IsBundlePassed b p) }
-    {
-        self.passes_all(run) || run.leans && self.passes_slabs(run)
-    }
-
-    // Whether it passes the box of each bundle.
-    fn passes_all(&self, run: &Run) -> bool
-        ensures { IsTrue result → (p : Triple) → AreLevels self.now p → IsEachBundle run.now (λ b. IsBundlePassed b p) }
-    {
-        if !self.passes(&run.eastward.around) {
-            return false;
-        }
-        if !self.passes(&run.northward.around) {
-            return false;
-        }
-        self.passes(&run.westward.around) && self.passes(&run.southward.around)
-    }
-
-    // Whether it passes the box or the slab of each.
-    #[inline(never)]
-    fn passes_slabs(&self, run: &Run) -> bool
-        ensures { IsTrue result → (p : Triple) → AreLevels self.now p → IsEachBundle run.now (λ b. IsBundlePassed b p) }
-    {
-        if !self.passes_slab(&run.eastward) {
-            return false;
-        }
-        if !self.passes_slab(&run.northward) {
-            return false;
-        }
-        self.passes_slab(&run.westward) && self.passes_slab(&run.southward)
-    }
-
-    // Whether it passes the box, or the slab is right of the point.
-    fn passes_slab(&self, bundle: &Bundle) -> bool
-        ensures { IsTrue result → (p : Triple) → AreLevels self.now p → IsBundlePassed bundle.now p }
-    {
-        self.passes(&bundle.around) || self.parts.is_before(&bundle.slab)
     }
 
     // Whether it is at the height of one.

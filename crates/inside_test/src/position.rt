@@ -7,14 +7,12 @@ ghost use Rattle.inside_test.specs.Odd.{IsOddOver, IsOddTo};
 
 use crate::crossing::{Meeting, Vertex, meeting_of};
 use crate::level::Levels;
-use crate::runs::Runs;
-use crate::skip::{ByBlocks, Skip};
 use exact_plane::{BoundingBox, Hom, Pt, Steps};
-use ring_check::{RUN, Ring};
+use ring_check::Ring;
 use std::sync::ledger::Ledger;
 
-// How many edges are looked at together.
-pub(crate) const BLOCK: u32 = RUN as u32;
+// How many edges are looked at together: their ends are sixteen vertices.
+pub(crate) const BLOCK: u32 = 15;
 
 /// Where a point lies.
 #[derive(Clone, Copy, Debug, PartialEq, Eq)]
@@ -45,42 +43,12 @@ pub fn place_hom<L: Ledger>(ring: &Ring, p: &Hom, steps: &mut Steps<L>) -> Posit
     ensures outside { (result ≡ Position.Outside) ↔ ¬ (IsIn ring.now.corners p.now) }
     ensures steps { steps.new ≤ steps.old + 1280 * length ring.now.corners + 64 }
 {
-    place_by(ring, None, p, steps)
-}
-
-// The same by runs, where there are some.
-pub(crate) fn place_by<L: Ledger>(
-    ring: &Ring,
-    runs: Option<&Runs>,
-    p: &Hom,
-    steps: &mut Steps<L>,
-) -> Position
-    requires { IfSome runs (λ runs. runs.now ≡ ring.now.corners) }
-    ensures edge { (result ≡ Position.Edge) ↔ IsOnSome (edges_of ring.now.corners) p.now }
-    ensures inside { (result ≡ Position.Inside) ↔ (IsIn ring.now.corners p.now × ¬ (IsOnSome (edges_of ring.now.corners) p.now)) }
-    ensures outside { (result ≡ Position.Outside) ↔ ¬ (IsIn ring.now.corners p.now) }
-    ensures steps { steps.new ≤ steps.old + 1280 * length ring.now.corners + 64 }
-{
-    match runs {
-        Some(runs) => place_with(ring, runs, p, steps),
-        None => place_with(ring, &ByBlocks, p, steps),
-    }
-}
-
-// The same by what knows of edges beforehand.
-fn place_with<S: Skip, L: Ledger>(ring: &Ring, skip: &S, p: &Hom, steps: &mut Steps<L>) -> Position
-    requires { S.is_of skip.now ring.now.corners }
-    ensures edge { (result ≡ Position.Edge) ↔ IsOnSome (edges_of ring.now.corners) p.now }
-    ensures inside { (result ≡ Position.Inside) ↔ (IsIn ring.now.corners p.now × ¬ (IsOnSome (edges_of ring.now.corners) p.now)) }
-    ensures outside { (result ≡ Position.Outside) ↔ ¬ (IsIn ring.now.corners p.now) }
-    ensures steps { steps.new ≤ steps.old + 1280 * length ring.now.corners + 64 }
-{
     let (n, levels) = (ring.len(), Levels::of(p, steps));
     let mut is_odd = false;
     let mut first = 0;
     while first < n {
-        let (end, odd) = skip.odd_to(ring, first, &levels, steps);
-        let odd = match odd {
+        let end = n.min(first + BLOCK);
+        let odd = match odd_by_box(ring, first, end, &levels, steps) {
             Some(odd) => odd,
             None => match odd_by_edges(ring, first, end, p, &levels, steps) {
                 Some(odd) => odd,
@@ -98,8 +66,9 @@ fn place_with<S: Skip, L: Ledger>(ring: &Ring, skip: &S, p: &Hom, steps: &mut St
 }
 
 // Whether an odd number of the edges from edge `first` to before edge `end` is crossed, where all of them lie to one side of the
-// point with these levels. It takes 64 steps a vertex for the box, and 128 for two of them.
-pub(crate) fn odd_by_box<L: Ledger>(
+// point with these levels. It takes 64 steps a vertex for the box, and 128 for two of them; the last edges have no box, since they
+// end at the first vertex.
+fn odd_by_box<L: Ledger>(
     ring: &Ring,
     first: u32,
     end: u32,
@@ -107,10 +76,14 @@ pub(crate) fn odd_by_box<L: Ledger>(
     steps: &mut Steps<L>,
 ) -> Option<bool>
     requires some { first < end }
-    requires within { end < length ring.now.corners }
+    requires within { end ≤ length ring.now.corners }
     ensures odd { IfSome result (IsOddTo ring.now.corners levels.now first end) }
     ensures steps { steps.new ≤ steps.old + 64 * (end - first) + 192 }
+    ensures steps_of_last { end ≡ length ring.now.corners → steps.new ≡ steps.old }
 {
+    if end == ring.len() {
+        return None;
+    }
     let vertices = &ring.corners()[first as usize..end as usize + 1];
     let around = BoundingBox::of(vertices, steps);
     if levels.misses(&around) {

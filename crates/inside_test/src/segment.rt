@@ -1,21 +1,19 @@
 ghost use Rattle.std.specs.List.{AllAdjacentBelow, Contains};
 ghost use Rattle.std.specs.Prelude.{◌≡◌, ◌↔◌, ◌++◌, ◌∷◌, [], ◌+◌, ◌*◌, ◌-◌, ◌<◌, ◌≤◌, ◌^◌, ℕ, List};
-ghost use Rattle.std.specs.Prelude.{IfOk, IfSome, IsTrue, OnOk, OnErr, length};
+ghost use Rattle.std.specs.Prelude.{IfNone, IfOk, IfSome, IsTrue, OnOk, OnErr, false, length, min};
 ghost use Rattle.plane.specs.Line.{mediant};
-ghost use Rattle.plane.specs.Point.{IsPoint, Triple, whole};
+ghost use Rattle.plane.specs.Point.{IsPoint, Point, Triple, whole};
 ghost use Rattle.plane.specs.Segment.{On};
 ghost use Rattle.rings.specs.Inside.{IsIn};
 ghost use Rattle.rings.specs.Sees.{Sees};
+ghost use Rattle.exact_plane.specs.Boxes.{Encloses};
 ghost use Rattle.exact_plane.specs.Direction.{turn_of};
 ghost use Rattle.exact_plane.specs.Size.{IsNarrow};
+ghost use Rattle.inside_test.specs.Apart.{MissesEdges};
 ghost use Rattle.inside_test.specs.Breakpoints.{EnclosesAll, ExtendsOnSegment, IsListed, Lists, ListsMeetings, breakpoint_points};
-ghost use Rattle.inside_test.specs.Probe.{IsProbe};
 
 use crate::breakpoint::Breakpoint;
-use crate::position::{BLOCK, Position, place_by};
-use crate::probe::Probe;
-use crate::runs::Runs;
-use crate::skip::{ByBlocks, Skip};
+use crate::position::{BLOCK, Position, place_hom};
 use exact_plane::{
     BoundingBox, Direction, Hom, Memory, Pt, Steps, on_segment, segments_meet, turn,
 };
@@ -26,9 +24,6 @@ use std::sync::ledger::Ledger;
 
 // A segment seldom has more breakpoints than these.
 const FEW: usize = 8;
-
-// For more breakpoints than these, runs of edges pay for themselves.
-const MANY: usize = 32;
 
 /// Whether the segment from `a` to `b` lies in the ring: each rational point of it does. It may run along edges and
 /// touch them. For n vertices, n below 2 to the power d, it takes at most 2560 n n + 3000 n (d + 2) steps: each vertex can be where
@@ -44,132 +39,109 @@ pub fn holds_segment<L: Ledger>(
     ensures steps { (d : ℕ) → let n = length ring.now.corners in n < 2 ^ d
         → steps.new ≤ steps.old + (2560 * (n * n) + 3000 * (n * (d + 2))) }
 {
-    holds_segment_by(alloc, ring, None, a, b, steps)
+    let _ring_has_vertices = ring.len();
+    match holds_segment_within(alloc, ring, a, b, usize::MAX, steps)? {
+        Some(holds) => Ok(holds),
+        None => unreachable!(),
+    }
 }
 
-/// The same by runs of the ring's edges, where they were made before, for many segments. It takes no more steps.
-pub fn holds_segment_by<L: Ledger>(
+/// The same where the segment meets the boundary at no more than `most` points that are listed, its ends among them, and `None` where there
+/// are more. It takes at most 1179 n + 386 steps for n vertices, and 1280 n + 65 for each of the points.
+pub fn holds_segment_within<L: Ledger>(
     alloc: Global,
     ring: &Ring,
-    runs: Option<&Runs>,
     a: &Pt,
     b: &Pt,
+    most: usize,
     steps: &mut Steps<L>,
-) -> Result<bool, Memory>
-    requires { IfSome runs (λ runs. runs.now ≡ ring.now.corners) }
-    ensures holds { IfOk result (λ holds. IsTrue holds ↔ Sees ring.now.corners (whole a.now) (whole b.now)) }
-    ensures steps { (d : ℕ) → let n = length ring.now.corners in n < 2 ^ d
-        → steps.new ≤ steps.old + (2560 * (n * n) + 3000 * (n * (d + 2))) }
+) -> Result<Option<bool>, Memory>
+    ensures holds { IfOk result (λ found. IfSome found (λ holds. IsTrue holds ↔ Sees ring.now.corners (whole a.now) (whole b.now))) }
+    ensures more { IfOk result (λ found. IfNone found (most < 2 * length ring.now.corners + 2)) }
+    ensures steps { let n = length ring.now.corners in
+        steps.new ≤ steps.old + (1179 * n + 386 + min most (2 * n + 2) * (1280 * n + 65)) }
 {
-    let _ring_has_vertices = ring.len();
-    let mut points = breakpoints(alloc, ring, runs, a, b, steps)?;
-    points.sort_unstable_by(|p, q| p.order(q));
-    let made = runs_for(alloc, ring, runs, points.len(), steps)?;
-    let runs = match &made {
-        Some(made) => Some(made),
-        None => runs,
-    };
-    Ok(holds_mediants(ring, runs, &points, steps))
-}
-
-// Runs of the ring's edges, where there are none yet and so many breakpoints that they pay for themselves.
-fn runs_for<'a, L: Ledger>(
-    alloc: Global,
-    ring: &'a Ring,
-    runs: Option<&Runs>,
-    count: usize,
-    steps: &mut Steps<L>,
-) -> Result<Option<Runs<'a>>, Memory>
-    ensures runs { IfOk result (λ made. IfSome made (λ runs. runs ≡ ring.now.corners)) }
-    ensures steps { steps.new ≤ steps.old + 512 * length ring.now.corners }
-{
-    if runs.is_some() || count <= MANY {
+    let Some(mut points) = breakpoints(alloc, ring, a, b, most, steps)? else {
         return Ok(None);
-    }
-    Ok(Some(Runs::of(alloc, ring, steps)?))
+    };
+    points.sort_unstable_by(|p, q| p.order(q));
+    Ok(Some(holds_mediants(ring, &points, steps)))
 }
 
-// The ends of the segment, and where it meets the edges, in no order.
+// The ends of the segment, and where it meets the edges, in no order, unless these are more than `most`.
 fn breakpoints<L: Ledger>(
     alloc: Global,
     ring: &Ring,
-    runs: Option<&Runs>,
     a: &Pt,
     b: &Pt,
+    most: usize,
     steps: &mut Steps<L>,
-) -> Result<Vec<Breakpoint>, Memory>
-    requires { IfSome runs (λ runs. runs.now ≡ ring.now.corners) }
-    ensures points { IfOk result (λ points.
-        ListsMeetings ring.now.corners (length ring.now.corners) (whole a.now) (whole b.now) (breakpoint_points points.items)) }
-    ensures few { IfOk result (λ points. length points.items ≤ 2 * length ring.now.corners + 2) }
+) -> Result<Option<Vec<Breakpoint>>, Memory>
+    ensures points { IfOk result (λ found. IfSome found (λ points.
+        ListsMeetings ring.now.corners (length ring.now.corners) (whole a.now) (whole b.now) (breakpoint_points points.items))) }
+    ensures within { IfOk result (λ found. IfSome found (λ points. length points.items ≤ most)) }
+    ensures few { IfOk result (λ found. IfSome found (λ points. length points.items ≤ 2 * length ring.now.corners + 2)) }
+    ensures more { IfOk result (λ found. IfNone found (most < 2 * length ring.now.corners + 2)) }
     ensures steps { steps.new ≤ steps.old + (1179 * length ring.now.corners + 386) }
 {
     let mut points = Vec::with_capacity(alloc, FEW)?;
     push(&mut points, Hom::of_pt(a, steps), steps)?;
     push(&mut points, Hom::of_pt(b, steps), steps)?;
-    push_edges(&mut points, ring, runs, a, b, steps)?;
-    Ok(points)
+    if push_edges(&mut points, ring, a, b, most, steps)? {
+        Ok(Some(points))
+    } else {
+        Ok(None)
+    }
 }
 
-// Appends what the segment has in common with all edges.
+// Appends what the segment has in common with all edges, and tells whether all are in a list of no more than `most`.
 fn push_edges<L: Ledger>(
     points: &mut Vec<Breakpoint>,
     ring: &Ring,
-    runs: Option<&Runs>,
     a: &Pt,
     b: &Pt,
+    most: usize,
     steps: &mut Steps<L>,
-) -> Result<(), Memory>
-    requires runs { IfSome runs (λ runs. runs.now ≡ ring.now.corners) }
-    requires before { ListsMeetings ring.now.corners 0 (whole a.now) (whole b.now) (breakpoint_points points.old.items) }
-    ensures points { OnOk result
-        (ListsMeetings ring.now.corners (length ring.now.corners) (whole a.now) (whole b.now) (breakpoint_points points.new.items)) }
+) -> Result<bool, Memory>
+    requires { ListsMeetings ring.now.corners 0 (whole a.now) (whole b.now) (breakpoint_points points.old.items) }
+    ensures points { IfOk result (λ all. IsTrue all
+        → ListsMeetings ring.now.corners (length ring.now.corners) (whole a.now) (whole b.now) (breakpoint_points points.new.items)) }
+    ensures within { IfOk result (λ all. IsTrue all → length points.new.items ≤ most) }
+    ensures more { IfOk result (λ all. all ≡ false → most < length points.new.items) }
     ensures few { OnOk result (length points.new.items ≤ length points.old.items + 2 * length ring.now.corners) }
     ensures steps { steps.new ≤ steps.old + (1179 * length ring.now.corners + 256) }
 {
-    let n = ring.len();
-    if n <= BLOCK {
-        return push_block(points, ring, 0, n, a, b, steps);
+    let (n, around) = (ring.len(), BoundingBox::of(&[*a, *b], steps));
+    let mut first = 0;
+    while first < n && points.len() <= most {
+        let end = n.min(first + BLOCK);
+        if !are_apart(ring, first, end, &around, steps) {
+            push_block(points, ring, first, end, a, b, steps)?;
+        }
+        first = end;
     }
-    let around = BoundingBox::of(&[*a, *b], steps);
-    let probe = Probe::of(a, b, &around, steps);
-    match runs {
-        Some(runs) => push_with(points, ring, runs, a, b, &probe, steps),
-        None => push_with(points, ring, &ByBlocks, a, b, &probe, steps),
-    }
+    Ok(points.len() <= most)
 }
 
-// The same by what knows of edges beforehand.
-fn push_with<S: Skip, L: Ledger>(
-    points: &mut Vec<Breakpoint>,
+// Whether a box round the edges from number `first` to before `end` shows that no segment in another box meets any of them. The
+// last edges have no box, since they end at the first vertex.
+fn are_apart<L: Ledger>(
     ring: &Ring,
-    skip: &S,
-    a: &Pt,
-    b: &Pt,
-    probe: &Probe,
+    first: u32,
+    end: u32,
+    around: &BoundingBox,
     steps: &mut Steps<L>,
-) -> Result<(), Memory>
-    requires of { S.is_of skip.now ring.now.corners }
-    requires probe { IsProbe probe.now a.now b.now }
-    requires before { ListsMeetings ring.now.corners 0 (whole a.now) (whole b.now) (breakpoint_points points.old.items) }
-    ensures points { OnOk result
-        (ListsMeetings ring.now.corners (length ring.now.corners) (whole a.now) (whole b.now) (breakpoint_points points.new.items)) }
-    ensures few { OnOk result (length points.new.items ≤ length points.old.items + 2 * length ring.now.corners) }
-    ensures steps { (most : ℕ) → S.asks skip.now most → steps.new ≤ steps.old + (most + 155) * length ring.now.corners }
+) -> bool
+    requires some { first < end }
+    requires within { end ≤ length ring.now.corners }
+    ensures apart { IsTrue result → (a b : Point) → Encloses around.now a → Encloses around.now b → MissesEdges ring.now.corners first end a b }
+    ensures steps { steps.new ≤ steps.old + 64 * (end - first + 1) }
 {
-    let n = ring.len();
-    let mut first = 0;
-    while first < n {
-        let apart = skip.apart_to(ring, first, probe, steps);
-        if first < apart {
-            first = apart;
-        } else {
-            let end = n.min(first + BLOCK);
-            push_block(points, ring, first, end, a, b, steps)?;
-            first = end;
-        }
+    if end == ring.len() {
+        return false;
     }
-    Ok(())
+    let vertices = &ring.corners()[first as usize..end as usize + 1];
+    !around.overlaps(&BoundingBox::of(vertices, steps))
 }
 
 // Appends what the segment has in common with these edges.
@@ -317,19 +289,13 @@ fn push<L: Ledger>(points: &mut Vec<Breakpoint>, p: Hom, steps: &mut Steps<L>) -
 }
 
 // Whether the mediant of each two neighbours is in the ring.
-fn holds_mediants<L: Ledger>(
-    ring: &Ring,
-    runs: Option<&Runs>,
-    points: &[Breakpoint],
-    steps: &mut Steps<L>,
-) -> bool
-    requires { IfSome runs (λ runs. runs.now ≡ ring.now.corners) }
+fn holds_mediants<L: Ledger>(ring: &Ring, points: &[Breakpoint], steps: &mut Steps<L>) -> bool
     ensures hold { IsTrue result
         ↔ AllAdjacentBelow (λ p q. IsIn ring.now.corners (mediant p.point q.point)) points.now (length points.now) }
     ensures steps { steps.new ≤ steps.old + (length points.now - 1) * (1280 * length ring.now.corners + 65) }
 {
     for i in 1..points.len() {
-        if !holds_mediant(ring, runs, &points[i - 1], &points[i], steps) {
+        if !holds_mediant(ring, &points[i - 1], &points[i], steps) {
             return false;
         }
     }
@@ -339,17 +305,15 @@ fn holds_mediants<L: Ledger>(
 // Whether the mediant of two points is in the ring.
 fn holds_mediant<L: Ledger>(
     ring: &Ring,
-    runs: Option<&Runs>,
     p: &Breakpoint,
     q: &Breakpoint,
     steps: &mut Steps<L>,
 ) -> bool
-    requires { IfSome runs (λ runs. runs.now ≡ ring.now.corners) }
     ensures holds { IsTrue result ↔ IsIn ring.now.corners (mediant p.now.point q.now.point) }
     ensures steps { steps.new ≤ steps.old + (1280 * length ring.now.corners + 65) }
 {
     let between = Hom::between(&p.point, &q.point, steps);
-    match place_by(ring, runs, &between, steps) {
+    match place_hom(ring, &between, steps) {
         Position::Inside | Position::Edge => true,
         Position::Outside => false,
     }

@@ -1,6 +1,7 @@
 mod AreaSoFar
 mod Below
-pub mod Bounds
+mod BoxSides
+mod Bounds
 mod EdgeEnds
 mod EdgeRuns
 mod GapMoves
@@ -14,4 +15,4 @@ mod SlabSides
 mod StatusEdits
 mod SweptArea
 mod TwoEdits
-pub mod Walks
+mod Walks

@@ -20,6 +20,4 @@ mod walk;
 pub use laws::{crossing_parity, winding_across};
 pub use order::{lexical_order, ranks_of};
 pub use ring::{Ring, RingFault};
-pub use runs::RUN;
 pub use sweep::sweep_finds_none;
-pub use walk::{greatest_run_from, lesser_run};

@@ -1,4 +1,5 @@
 ghost use Rattle.std.specs.Prelude.{◌≡◌, ◌+◌, ◌*◌, ◌<◌, ◌≤◌, ◌^◌, ◌*ℤ◌, ◌-ℤ◌, length, unsigned_abs};
+ghost use Rattle.plane.specs.Point.{IsInBounds};
 ghost use Rattle.plane.specs.declared.limits.TheConstants.{MAX_CORNERS};
 ghost use Rattle.rings.specs.Orientation.{doubled_area};
 ghost use Rattle.ring_check.specs.Oriented.{given_of, oriented};
@@ -51,7 +52,15 @@ pub(crate) fn swept<L: Ledger>(from: &Pt, to: &Pt, steps: &mut Steps<L>) -> i64
     ensures small { unsigned_abs result < 2 ^ 47 }
     ensures steps { steps.new ≡ steps.old + 128 }
 {
-    let (from_x, from_y) = from.parts(steps);
-    let (to_x, to_y) = to.parts(steps);
-    from_x * to_y - to_x * from_y
+    swept_by(from.parts(steps), to.parts(steps))
+}
+
+// The same by the coordinates of both.
+pub(crate) fn swept_by(from: (i64, i64), to: (i64, i64)) -> i64
+    requires from { IsInBounds (record { x = from.0; y = from.1 }) }
+    requires to { IsInBounds (record { x = to.0; y = to.1 }) }
+    ensures value { result ≡ (from.0 *ℤ to.1) -ℤ (to.0 *ℤ from.1) }
+    ensures small { unsigned_abs result < 2 ^ 47 }
+{
+    from.0 * to.1 - to.0 * from.1
 }

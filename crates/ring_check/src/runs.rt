@@ -14,8 +14,8 @@ use std::alloc::Global;
 use std::cmp::Ordering;
 use std::sync::ledger::Ledger;
 
-/// How many edges a run has at most that joins no others: their ends are sixteen vertices.
-pub const RUN: usize = 15;
+// How many edges a run has at most that joins no others: their ends are sixteen vertices.
+pub(crate) const RUN: usize = 15;
 
 // The slab round the edges that go a way is along another edge of the run, where that is more than so many times as long.
 const FAR_LONGER: u64 = 8;
@@ -97,7 +97,7 @@ impl Run {
         ensures run { IsRun points.now result }
         ensures first { result.first ≡ self.now.first }
         ensures end { result.end ≡ e + 1 }
-        ensures steps { steps.new ≡ steps.old + 768 }
+        ensures steps { steps.new ≡ steps.old + 640 }
     {
         let run = Run {
             end: e + 1,

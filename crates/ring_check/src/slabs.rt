@@ -4,7 +4,7 @@ ghost use Rattle.plane.specs.Point.{Point, whole};
 ghost use Rattle.plane.specs.Segment.{Meet};
 ghost use Rattle.ring_check.specs.Slabs.{IsInSlab, slab_height};
 
-use crate::orientation::swept;
+use crate::orientation::{swept, swept_by};
 use crate::slab::Slab;
 use exact_plane::{Pt, Steps};
 use std::sync::ledger::Ledger;
@@ -44,7 +44,7 @@ impl Slab {
     pub fn with<L: Ledger>(&self, p: &Pt, steps: &mut Steps<L>) -> Slab
         ensures new { IsInSlab result p.now }
         ensures old { (q : Point) → IsInSlab self.now q → IsInSlab result q }
-        ensures steps { steps.new ≡ steps.old + 256 }
+        ensures steps { steps.new ≡ steps.old + 192 }
     {
         let height = self.height(p, steps);
         Slab {
@@ -60,7 +60,7 @@ impl Slab {
     pub fn misses<L: Ledger>(&self, p: &Pt, q: &Pt, steps: &mut Steps<L>) -> bool
         ensures apart { IsTrue result → (a b : Point) → IsInSlab self.now a → IsInSlab self.now b
             → Meet (whole p.now) (whole q.now) (whole a) (whole b) → ⊥ }
-        ensures steps { steps.new ≡ steps.old + 512 }
+        ensures steps { steps.new ≡ steps.old + 384 }
     {
         let (first, second) = (self.height(p, steps), self.height(q, steps));
         if first < self.least {
@@ -73,9 +73,10 @@ impl Slab {
     fn height<L: Ledger>(&self, p: &Pt, steps: &mut Steps<L>) -> i64
         ensures value { result ≡ slab_height self.now p.now }
         ensures small { unsigned_abs result < 2 ^ 48 }
-        ensures steps { steps.new ≡ steps.old + 256 }
+        ensures steps { steps.new ≡ steps.old + 192 }
     {
-        swept(&self.to, p, steps) - swept(&self.from, p, steps)
+        let p = p.parts(steps);
+        swept_by(self.to.parts(steps), p) - swept_by(self.from.parts(steps), p)
     }
 }
 

@@ -10,9 +10,9 @@ use crate::runs::{RUN, Run};
 use exact_plane::{BoundingBox, Pt, Steps};
 use std::sync::ledger::Ledger;
 
-/// The number of the greatest run that begins at an edge, where so many runs make a tree: of m short runs, one begins at each multiple of
-/// `RUN`, and run m + k joins runs 2 k and 2 k + 1.
-pub fn greatest_run_from(count: usize, first: usize) -> Option<usize> {
+// The number of the greatest run that begins at an edge, where so many runs make a tree: of m short runs, one begins at each multiple of
+// `RUN`, and run m + k joins runs 2 k and 2 k + 1.
+fn greatest_run_from(count: usize, first: usize) -> Option<usize> {
     let mut k = first / RUN;
     if first % RUN != 0 || count <= k {
         return None;
@@ -28,9 +28,9 @@ pub fn greatest_run_from(count: usize, first: usize) -> Option<usize> {
     Some(k)
 }
 
-/// The number of the first of the two runs that run `k` of these joins, or `None` for a short run. It begins at the same edge, and there are
-/// twice as many behind it.
-pub fn lesser_run(count: usize, k: usize) -> Option<usize>
+// The number of the first of the two runs that run `k` of these joins, or `None` for a short run. It begins at the same edge, and there are
+// twice as many behind it.
+fn lesser_run(count: usize, k: usize) -> Option<usize>
     ensures number { IfSome result (λ number. number < k) }
     ensures behind { IfSome result (λ number. 2 * (count - k) ≤ count - number) }
 {

@@ -72,6 +72,47 @@ not,wrong_side,1
 not,leaves,0
 taut
 
+# a path in a comb, without each of its bends, with each point but the last twice, and with each point but one again in the place of the next
+polygon,0,0,4,6,8,0,12,6,16,0,20,6,24,0,24,2,20,8,16,2,12,8,8,2,4,8,0,2
+check,0,1,4,6,8,2,12,6,16,2,20,6,24,1
+check,0,1,8,2,12,6,16,2,20,6,24,1
+check,0,1,4,6,12,6,16,2,20,6,24,1
+check,0,1,4,6,8,2,16,2,20,6,24,1
+check,0,1,4,6,8,2,12,6,20,6,24,1
+check,0,1,4,6,8,2,12,6,16,2,24,1
+check,0,1,0,1,4,6,8,2,12,6,16,2,20,6,24,1
+check,0,1,4,6,4,6,8,2,12,6,16,2,20,6,24,1
+check,0,1,4,6,8,2,8,2,12,6,16,2,20,6,24,1
+check,0,1,4,6,8,2,12,6,12,6,16,2,20,6,24,1
+check,0,1,4,6,8,2,12,6,16,2,16,2,20,6,24,1
+check,0,1,4,6,8,2,12,6,16,2,20,6,20,6,24,1
+check,0,1,4,6,0,1,8,2,12,6,16,2,20,6,24,1
+check,0,1,4,6,8,2,4,6,12,6,16,2,20,6,24,1
+check,0,1,4,6,8,2,12,6,8,2,16,2,20,6,24,1
+check,0,1,4,6,8,2,12,6,16,2,12,6,20,6,24,1
+check,0,1,4,6,8,2,12,6,16,2,20,6,16,2,24,1
+check,0,1,4,6,8,2,12,6,16,2,20,6,24,1,20,6
+=
+polygon,14
+taut
+not,leaves,0
+not,leaves,1
+not,leaves,2
+not,leaves,3
+not,leaves,4
+not,repeat,0
+not,repeat,1
+not,repeat,2
+not,repeat,3
+not,repeat,4
+not,repeat,5
+not,straight,1
+not,straight,2
+not,straight,3
+not,straight,4
+not,straight,5
+not,not_reflex,6
+
 # a refused polygon leaves the one before
 polygon,0,0,4,0,4,2,2,2,2,4,0,4
 polygon,0,0,4,4,4,0,0,4

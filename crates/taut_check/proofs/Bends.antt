@@ -11,7 +11,7 @@ use Rattle.rings.specs.Bend.{AreNeighbours}
 use Rattle.rings.specs.Chain.{IsInner, point_at}
 use Rattle.rings.specs.Orientation.{IsReflex}
 use Rattle.rings.specs.Ring.{vertex}
-use Rattle.taut_check.specs.Found.{IsSoundBend}
+use Rattle.taut_check.specs.Sound.{IsSoundBend}
 use Rattle.taut_check.specs.Verdict.{HasNoTurn, IsOnWrongSide}
 
 -- a number is negative or not,

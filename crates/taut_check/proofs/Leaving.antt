@@ -1,14 +1,16 @@
 -- What holds at a place that a list doesn't leave the ring at.
 use Rattle.std.proofs.Common.{◌≡◌, inl, inr, refl, Bool, true, false, IsTrue, ◌↔◌, ℕ, ◌+◌, ◌-◌, ◌<◌, ◌≤◌, List, length, arith}
 use Rattle.std.specs.Prelude.{not}
-use Rattle.plane.proofs.Points.{whole_is_point}
-use Rattle.plane.proofs.Segments.{on_first_end, on_last_end}
-use Rattle.plane.specs.Point.{IsPoint, Point, Triple, whole}
-use Rattle.rings.proofs.Inside.{in_or_not}
+use Rattle.plane.proofs.Points.{same_sym, whole_is_point}
+use Rattle.plane.proofs.Segments.{combination_of_same, on_first_end, on_last_end}
+use Rattle.plane.proofs.Turns.{combination_of}
+use Rattle.plane.specs.Point.{IsPoint, IsSame, Point, Triple, whole}
+use Rattle.rings.proofs.Inside.{in_or_not, in_same}
 use Rattle.rings.specs.Chain.{point_at}
 use Rattle.rings.specs.Inside.{IsIn}
 use Rattle.rings.specs.Sees.{Sees}
-use Rattle.taut_check.specs.Found.{IsSeenAt, IsSound, IsSoundBend}
+use Rattle.taut_check.specs.Found.{IsSeenAt}
+use Rattle.taut_check.specs.Sound.{IsSound, IsSoundBend}
 use Rattle.taut_check.specs.Verdict.{IsLeaving, IsRepeat}
 
 -- a rational point that is not outside is in the ring
@@ -48,13 +50,36 @@ leaves_unseen ring points k p q holds at_p at_q before_last sees = by_sight hold
       λ _. refl,
     )
 
--- the last point leaves exactly where it is outside
-pub leaves_last : (ring points : List Point) (k : ℕ) (p : Point) (is_out : Bool) → p ≡ point_at points k → length points ≤ k + 1
-    → (IsTrue is_out ↔ (¬ IsIn ring (whole p))) → IsTrue is_out ↔ IsLeaving ring points k
-leaves_last ring points k p is_out at_p last out = (
-  λ h. inl (rw (← at_p) (out.0 h)),
-  λ leaves. elim leaves [ inl h ↦ out.1 (rw at_p h) | inr h ↦ absurd (omega (arith, h.not_last)) ],
+-- a point sees itself exactly where it is in the ring
+pub sees_itself : (ring : List Point) (p : Triple) → IsPoint p → Sees ring p p ↔ IsIn ring p
+sees_itself ring p at_p = (
+  λ sees. sees p at_p (on_first_end p p),
+  λ inside x at_x on. in_same ring p x at_p at_x (same_sym (combination_of_same x p p refl_same (combination_of x p p at_x at_p at_p on))) inside,
 )
+  where
+    refl_same : IsSame p p
+    refl_same = record { same_x = refl; same_y = refl }
+
+-- a lone point leaves exactly where it does not see itself
+pub leaves_alone : (ring points : List Point) (k : ℕ) (p : Point) (holds : Bool) → p ≡ point_at points k → length points ≤ k + 1
+    → (IsTrue holds ↔ Sees ring (whole p) (whole p)) → IsTrue (not holds) ↔ IsLeaving ring points k
+leaves_alone ring points k p holds at_p last sees = by_sight holds refl
+  where
+    itself : Sees ring (whole p) (whole p) ↔ IsIn ring (whole p)
+    itself = sees_itself ring (whole p) (whole_is_point p)
+
+    by_sight : (b : Bool) → holds ≡ b → IsTrue (not b) ↔ IsLeaving ring points k
+    by_sight true seen = (
+      λ h. absurd (cc h),
+      λ leaves. elim leaves [
+        | inl out ↦ absurd (out (rw (← at_p) (itself.0 (sees.0 seen))))
+        | inr h ↦ absurd (omega (arith, h.not_last))
+      ],
+    )
+    by_sight false unseen = (
+      λ _. inl (λ within. absurd (cc (sees.1 (itself.1 (rw at_p within)), unseen))),
+      λ _. refl,
+    )
 
 -- nor does it leave where the one before it sees it
 pub stays_where_seen : (ring points : List Point) (k : ℕ) → 0 < k → IsSeenAt ring points k → length points ≤ k + 1 → ¬ IsLeaving ring points k

@@ -1,7 +1,7 @@
 mod Bends
 pub mod GivenVerdict
-mod Leaving
+pub mod Leaving
 mod Neighbours
-mod PassedVertices
 pub mod SameRules
+pub mod TautParts
 mod Verdicts

@@ -5,7 +5,8 @@ use Rattle.plane.specs.Point.{Point}
 use Rattle.rings.specs.Chain.{IsBentChain, IsTaut, point_at}
 use Rattle.rings.specs.Simple.{IsSimple}
 use Rattle.funnels.proofs.OneChain.{taut_iff_bent}
-use Rattle.taut_check.specs.Found.{IsSound, verdict_place}
+use Rattle.taut_check.specs.Found.{verdict_place}
+use Rattle.taut_check.specs.Sound.{IsSound}
 use Rattle.taut_check.specs.Verdict.{IsBroken, IsFirstRule, IsLeastBroken, IsUnbroken, IsVerdict}
 use Rattle.taut_check.specs.declared.verdict.Verdict.{Verdict}
 use Rattle.taut_check.specs.declared.verdict.Verdict.TheVariants as verdict

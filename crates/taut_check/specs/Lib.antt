@@ -1,2 +1,4 @@
 pub mod Found
 pub mod Verdict
+pub mod Segments
+pub mod Sound

@@ -6,13 +6,12 @@ ghost use Rattle.rings.specs.Chain.{IsInner, point_at};
 ghost use Rattle.rings.specs.Orientation.{IsReflex};
 ghost use Rattle.rings.specs.Ring.{vertex};
 ghost use Rattle.exact_plane.specs.Direction.{turn_of};
-ghost use Rattle.taut_check.specs.Found.{IsNoReflexFrom};
+ghost use Rattle.taut_check.specs.Found.{IsNoReflexBefore};
 ghost use Rattle.taut_check.specs.Verdict.{HasNoTurn, IsOnWrongSide};
 
 use crate::chain::point;
-use exact_plane::{BoundingBox, Direction, Pt, Steps, in_cone, order, turn};
-use inside_test::Runs;
-use ring_check::{RUN, Ring};
+use exact_plane::{Direction, Pt, Steps, in_cone, order, turn};
+use ring_check::Ring;
 use std::cmp::Ordering;
 use std::sync::ledger::Ledger;
 
@@ -24,82 +23,15 @@ pub fn is_inner(points: &[Pt], k: usize) -> bool
     0 < k && k < points.len() - 1
 }
 
-// The number of the reflex vertex that is this point, if there is one. It takes at most 194 steps a vertex.
-pub fn reflex_vertex<L: Ledger>(
-    ring: &Ring,
-    runs: Option<&Runs>,
-    p: &Pt,
-    steps: &mut Steps<L>,
-) -> Option<u32>
-    requires { IfSome runs (λ runs. runs.now ≡ ring.now.corners) }
+// The number of the reflex vertex that is this point, if there is one. It takes at most two steps a vertex.
+pub fn reflex_vertex<L: Ledger>(ring: &Ring, p: &Pt, steps: &mut Steps<L>) -> Option<u32>
     ensures range { IfSome result (λ i. i < length ring.now.corners) }
     ensures vertex { IfSome result (λ i. vertex ring.now.corners i ≡ p.now) }
     ensures reflex { IfSome result (λ i. IsReflex ring.now.corners i) }
     ensures none { IfNone result (¬ IsReflexVertex ring.now.corners p.now) }
-    ensures steps { steps.new ≤ steps.old + 194 * length ring.now.corners }
+    ensures steps { steps.new ≤ steps.old + 2 * length ring.now.corners }
 {
-    let n = ring.len();
-    let mut first = 0;
-    while first < n {
-        let (end, is_apart) = passed_to(ring, runs, first, p, steps);
-        if let Some(i) = reflex_vertex_among(ring, first, end, is_apart, p, steps) {
-            return Some(i);
-        }
-        first = end;
-    }
-    None
-}
-
-// A later vertex, and whether it is known beforehand that none of those from `first` to before it is this point.
-fn passed_to<L: Ledger>(
-    ring: &Ring,
-    runs: Option<&Runs>,
-    first: u32,
-    p: &Pt,
-    steps: &mut Steps<L>,
-) -> (u32, bool)
-    requires runs { IfSome runs (λ runs. runs.now ≡ ring.now.corners) }
-    requires some { first < length ring.now.corners }
-    ensures later { first < result.0 }
-    ensures within { result.0 ≤ length ring.now.corners }
-    ensures apart { IsTrue result.1 → IsNoReflexFrom ring.now.corners first result.0 p.now }
-    ensures steps { steps.new ≤ steps.old + 192 }
-{
-    let n = ring.len();
-    let Some(runs) = runs else {
-        return (n, false);
-    };
-    let around = BoundingBox::of(&[*p], steps);
-    let apart = runs.apart_to(first, p, p, &around, steps);
-    if first < apart {
-        (apart, true)
-    } else {
-        (n.min(first + RUN as u32), false)
-    }
-}
-
-// The number of the reflex vertex that is this point among the vertices from number `first` to before `end`, unless it is known
-// that there is none.
-fn reflex_vertex_among<L: Ledger>(
-    ring: &Ring,
-    first: u32,
-    end: u32,
-    is_apart: bool,
-    p: &Pt,
-    steps: &mut Steps<L>,
-) -> Option<u32>
-    requires within { end ≤ length ring.now.corners }
-    requires apart { IsTrue is_apart → IsNoReflexFrom ring.now.corners first end p.now }
-    ensures range { IfSome result (λ i. i < length ring.now.corners) }
-    ensures vertex { IfSome result (λ i. vertex ring.now.corners i ≡ p.now) }
-    ensures reflex { IfSome result (λ i. IsReflex ring.now.corners i) }
-    ensures none { IfNone result (IsNoReflexFrom ring.now.corners first end p.now) }
-    ensures steps { steps.new ≤ steps.old + 2 * (end - first) }
-{
-    if is_apart {
-        return None;
-    }
-    for i in first..end {
+    for i in 0..ring.len() {
         if is_reflex_at(ring, i, p, steps) {
             return Some(i);
         }

@@ -3,6 +3,8 @@
 
 mod bend;
 mod chain;
+mod sight;
 mod verdict;
 
-pub use verdict::{Verdict, check};
+pub use sight::Sight;
+pub use verdict::{Verdict, check, check_from};

@@ -1,8 +1,8 @@
 use Rattle.std.proofs.Common.{◌≡◌, ◌+◌, ◌*◌, ◌-◌, ◌≤◌, length, arith}
+use Rattle.std.proofs.Math.Nat.{mul-le-mul_left}
 use Rattle.std.proofs.lemmas.List.Sorted.{all_adjacent_more}
 use Rattle.inside_test.proofs.Adjacent.{adjacent_at, adjacent_from}
 use Rattle.inside_test.proofs.Neighbours.{MediantIn}
-use Rattle.inside_test.proofs.Passing.{passed_fewer}
 use Rattle.inside_test.proofs.segment.holds_mediants.Goals as goal
 
 pub returns-then-not-holds_mediant-clause-hold : goal.returns-then-not-holds_mediant-clause-hold
@@ -21,7 +21,7 @@ returns-then-not-holds_mediant-clause-steps g c =
     let before = c.loop-i.invariant in
     let each = 1280 * length c.args.ring.now.corners + 65 in
     let fewer : c.loop-i.i - 1 + 1 ≤ length c.args.points.now - 1 = omega (arith, c.loop-i-test.true, c.loop-i.auto.i) in
-    omega (arith, before.steps, c.holds_mediant.ensures.steps, passed_fewer each (c.loop-i.i - 1 + 1) (length c.args.points.now - 1) fewer)
+    omega (arith, before.steps, c.holds_mediant.ensures.steps, mul-le-mul_left each fewer)
 
 pub loop-i-preserved : goal.loop-i-preserved
 loop-i-preserved g c =
@@ -39,4 +39,4 @@ pub returns-clause-steps : goal.returns-clause-steps
 returns-clause-steps g c =
     let before = c.loop-i.invariant in
     let each = 1280 * length c.args.ring.now.corners + 65 in
-    omega (arith, before.steps, passed_fewer each (c.loop-i.i - 1) (length c.args.points.now - 1) before.within)
+    omega (arith, before.steps, mul-le-mul_left each before.within)

@@ -1,15 +1,18 @@
 use Rattle.std.proofs.Common.{arith}
 use Rattle.rings.specs.Ring.{origin}
+use Rattle.inside_test.proofs.PointLists.{lists_past}
 use Rattle.inside_test.proofs.segment.push_edges.Goals as goal
+use Rattle.inside_test.specs.Breakpoints.{breakpoint_points}
 
-pub of-probe-requires-clause-first : goal.of-probe-requires-clause-first
-of-probe-requires-clause-first g c = c.of-around.ensures.within 0 (omega arith) origin
-
-pub of-probe-requires-clause-last : goal.of-probe-requires-clause-last
-of-probe-requires-clause-last g c = c.of-around.ensures.within 1 (omega arith) origin
-
-pub returns-in-Some-clause-steps : goal.returns-in-Some-clause-steps
-returns-in-Some-clause-steps g c = omega (arith, c.of-around.ensures.steps, c.of-probe.ensures.steps, c.push_with.ensures.steps 1024 (omega arith))
-
-pub returns-in-None-clause-steps : goal.returns-in-None-clause-steps
-returns-in-None-clause-steps g c = omega (arith, c.of-around.ensures.steps, c.of-probe.ensures.steps, c.push_with-in-None.ensures.steps 1024 (omega arith))
+pub loop-first-preserved : goal.loop-first-preserved
+loop-first-preserved g c =
+    let before = c.loop-first.invariant in
+    let around = c.of-around.ensures.within in
+    let apart = c.are_apart.ensures.apart c.if-not-are_apart.false c.args.a.now c.args.b.now (around 0 (omega arith) origin) (around 1 (omega arith) origin) in
+    record {
+      points = lists_past c.args.ring.now.corners c.args.a.now c.args.b.now c.loop-first.first c.min-end.result (breakpoint_points c.loop-first.points.items)
+          before.points apart;
+      within = omega arith;
+      few = omega arith;
+      steps = omega (arith, c.are_apart.ensures.steps);
+    }
