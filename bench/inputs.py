@@ -30,9 +30,9 @@ def star(n: int) -> Ring:
     return [(round(r * math.cos(t)), round(r * math.sin(t))) for t in turns for r in [draw.randint(400_000, 990_000)]]
 
 
-def houses(n: int, width: int) -> Ring:
-    """A ring of upright and level edges: houses of random heights, wall to wall."""
-    draw = random.Random(n)
+def houses(n: int, width: int, town: int = 0) -> Ring:
+    """A ring of upright and level edges: houses of random heights, wall to wall, other ones in each town."""
+    draw = random.Random(n + 100_000 * town)
     roof: Ring = []
     height = 0
     for i in reversed(range(n // 2 - 1)):
@@ -46,9 +46,9 @@ def skyline(n: int) -> Ring:
     return houses(n, 400)
 
 
-def slope(n: int) -> Ring:
+def slope(n: int, town: int = 0) -> Ring:
     """Narrow houses, turned by an eighth, of which the last ones clash: the edges n - 5 and n - 3 are the least pair."""
-    ring = houses(n, 40)
+    ring = houses(n, 40, town)
     ring[-4:-2] = [(40, 500), (80, 500)]
     return [(x - y, x + y) for x, y in ring]
 

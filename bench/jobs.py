@@ -13,9 +13,9 @@ SIZES = [1024, 4096, 16_384]
 PAIRED = [256, 1024]  # for `pair` and `sights`, which take no more vertices
 MOST = {1: 4096, 2: 16_384}  # vertices in a version of the script
 BYTES = [1_048_576, 8_388_608]
-PLACES, VIEWS, LONG_VIEWS, PATHS, LISTS, PEGS, TIMES, WALKS = 1000, 100, 10, 200, 10, 16, 20, 10
+PLACES, VIEWS, LONG_VIEWS, PATHS, LISTS, PEGS, TIMES, WALKS, TOWNS = 1000, 100, 10, 200, 10, 16, 20, 10, 4
 ENOUGH, PLENTY = 0.03, 0.3  # seconds of the processor that the records of a job take together
-LEAST, REPEATS = 16, 512
+FEW, LEAST, REPEATS = 4, 16, 512
 
 
 @dataclass(frozen=True)
@@ -124,16 +124,17 @@ def jobs(sizes: List[int], only: str, ask: Ask) -> Iterator[Job]:
 
 
 def repeat(job: Job, one: str, ask: Ask, answer: Optional[str] = None) -> None:
-    """Some records over and over, until that takes some 30 milliseconds and as long as all before them, and their answers where they are
-    known. They are asked sixteen times at least, unless that takes 0.3 seconds: the first records of a process fetch the memory that later
-    ones take again, and would weigh more in a large ring, where fewer are enough. Where there are more than one, the peers are asked each
-    of them."""
-    rest, count = min(ask(job.before).processor for _ in range(2)), 1
-    while count < REPEATS:
+    """Some records over and over, until that takes some 30 milliseconds and as long as all before them, or a script is full, and their
+    answers where they are known. They are asked sixteen times at least, or four times where that takes 0.3 seconds: the first records of a
+    process fetch the memory that later ones take again, and would weigh more in a large ring, where fewer are enough. Where there are more
+    than one, the peers are asked each of them."""
+    most = min(REPEATS, (BYTES[-1] - len(job.before)) // len(one))
+    rest, count = min(ask(job.before).processor for _ in range(2)), min(FEW, most)
+    while count < most:
         spent = ask(job.before + count * one).processor - rest
         if spent >= max(rest, ENOUGH if count >= LEAST else PLENTY):
             break
-        count = min(REPEATS, count * (2 if 2 * spent > ENOUGH else 8))
+        count = min(most, count * (2 if 2 * spent > ENOUGH else 8))
     job.asked = one.count('\n')
     job.times, job.timed = count * job.asked, count * one
     if answer is not None:
@@ -154,9 +155,18 @@ def polygon(job: Job, ask: Ask) -> None:
 
 
 def refused(job: Job, ask: Ask) -> None:
+    """How much of a slope is swept before the clash hangs on where the houses are drawn, so there are some. In a spiral two neighbours are
+    exchanged."""
     job.before = job.head
-    first = job.size - (6 if job.shape == 'zigzag' else 5)
-    repeat(job, record('polygon', job.ring), ask, f'bad,clash,{first},{first + 2}\n')
+    rings = [job.ring]
+    if job.shape == 'slope':
+        rings, first = [inputs.slope(job.size, town) for town in range(TOWNS)], job.size - 5
+    elif job.shape == 'zigzag':
+        first = job.size - 6
+    else:
+        first = job.size // 4 - 1
+        rings = [[*job.ring[:first + 1], job.ring[first + 2], job.ring[first + 1], *job.ring[first + 3:]]]
+    repeat(job, ''.join(record('polygon', ring) for ring in rings), ask, len(rings) * f'bad,clash,{first},{first + 2}\n')
 
 
 def accept(job: Job, ask: Ask) -> None:
@@ -245,10 +255,20 @@ def check_way(way: Callable[[int], Ring]) -> Fill:
     return fill
 
 
-def check_far(job: Job, ask: Ask) -> None:
+def far_list(job: Job, ask: Ask) -> Ring:
     """The path between the ends of the spiral, as a list."""
     line = ask(job.before + record('path', [job.ring[job.size // 2], job.ring[0]])).lines[-1]
-    repeat(job, record('check', inputs.bends(inputs.numbers(line))), ask, 'taut\n')
+    return inputs.bends(inputs.numbers(line))
+
+
+def check_far(job: Job, ask: Ask) -> None:
+    repeat(job, record('check', far_list(job, ask)), ask, 'taut\n')
+
+
+def check_cut(job: Job, ask: Ask) -> None:
+    """The same list without its last bend, so that a part that is taut is looked for."""
+    *way, _, end = far_list(job, ask)
+    repeat(job, record('check', [*way, end]), ask, f'not,leaves,{len(way) - 1}\n')
 
 
 def hull(job: Job, ask: Ask) -> None:
@@ -351,7 +371,7 @@ KINDS = [
     Kind('guards', SIX_SHAPES, guards),
     Kind('pair', SIX_SHAPES, pair),
     Kind('sights', SIX_SHAPES, sights),
-    Kind('polygon', ['zigzag', 'slope'], refused, 'refused', hostile=True),
+    Kind('polygon', ['zigzag', 'slope', 'turned', 'sheared'], refused, 'refused', hostile=True),
     Kind('inside', ['maze'], inside_again, hostile=True),
     Kind('see', ['convex'], see_all, hostile=True),
     Kind('kernel', ['convex'], kernel, hostile=True),
@@ -363,6 +383,7 @@ KINDS = [
     Kind('check', ['arch'], check_way(inputs.way_along_arch), 'each tip', hostile=True),
     Kind('check', ['fence'], check_way(inputs.way_along_fence), 'two points', hostile=True),
     Kind('check', ['turned', 'askew', 'sheared'], check_far, 'end to end', hostile=True),
+    Kind('check', ['turned'], check_cut, 'the last bend left out', hostile=True),
     Kind('hull', ['broom'], hull, f'{inputs.SPIKES} points', hostile=True),
     Kind('round', ['broom'], closed_round, f'{inputs.SPIKES} points', hostile=True),
     Kind('guards', ['skyline', 'saw', 'fan', 'hourglass'], guards, hostile=True),
