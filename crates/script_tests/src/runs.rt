@@ -98,7 +98,7 @@ fn are_around_sights(taken: &[u8], front: &str, rest: &str) -> bool {
 #[test]
 fn each_script_is_answered(rt: HostRuntime) -> Result<(), Fail> {
     for (table, count) in [
-        (PLACES, 15),
+        (PLACES, 16),
         (PATHS, 19),
         (VIEWS, 18),
         (REFUSALS, 17),
