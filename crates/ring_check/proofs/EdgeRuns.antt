@@ -1,14 +1,15 @@
--- Runs of edges: with one edge more, and apart from a segment.
-use Rattle.std.proofs.Common.{◌≡◌, inl, inr, subst, ℕ, ◌+◌, List, arith}
+-- Runs of edges: with one edge more, joined, and apart from a segment.
+use Rattle.std.proofs.Common.{◌≡◌, inl, inr, subst, ℕ, ◌+◌, ◌*◌, ◌≤◌, ◌<◌, List, length, arith}
 use Rattle.std.proofs.lemmas.Bool.{cases_lt}
-use Rattle.plane.specs.Point.{Point, whole}
-use Rattle.plane.specs.Segment.{Meet}
+use Rattle.std.specs.List.{All, Contains}
+use Rattle.std.specs.Prelude.{slice_index}
+use Rattle.plane.specs.Point.{Point}
 use Rattle.rings.specs.Ring.{vertex}
 use Rattle.rings.specs.Simple.{Clash, HasEqualEnds}
 use Rattle.ring_check.proofs.SharedPoints.{meet_of_shared}
-use Rattle.ring_check.specs.Boxes.{IsApartFrom, IsApartOver}
-use Rattle.ring_check.specs.Covers.{CoversEdge, IsInCover}
-use Rattle.ring_check.specs.Runs.{IsCovered, IsRun}
+use Rattle.ring_check.specs.Boxes.{IsApartFrom}
+use Rattle.ring_check.specs.Covers.{CoversEdge, IsApart, IsInCover}
+use Rattle.ring_check.specs.Runs.{ListsEdges, IsLeftOut, IsRun}
 use Rattle.ring_check.specs.declared.cover.Cover.{Cover}
 use Rattle.ring_check.specs.declared.runs.Run.{Run}
 
@@ -16,53 +17,54 @@ use Rattle.ring_check.specs.declared.runs.Run.{Run}
 abbrev pub IsWider : Cover → Cover → Type 0
 IsWider b c = (q : Point) → IsInCover b q → IsInCover c q
 
-edge_in_wider : (ring : List Point) (b c : Cover) (e : ℕ) → IsWider b c → CoversEdge ring b e → CoversEdge ring c e
-edge_in_wider ring b c e wider h = record { from = wider (vertex ring e) h.from; to = wider (vertex ring (e + 1)) h.to }
+in_wider : (ring : List Point) (b c : Cover) (e : ℕ) → IsWider b c → CoversEdge ring b e → CoversEdge ring c e
+in_wider ring b c e wider h = record { from = wider (vertex ring e) h.from; to = wider (vertex ring (e + 1)) h.to }
 
--- what is in a cover is so where each is wider
-in_wider : (ring : List Point) (a b : Run) (e : ℕ)
-    → IsWider a.eastward b.eastward → IsWider a.northward b.northward → IsWider a.westward b.westward → IsWider a.southward b.southward
-    → IsCovered ring a e → IsCovered ring b e
-in_wider ring a b e east north west south within = elim within [
-  | inl h ↦ inl (edge_in_wider ring a.eastward b.eastward e east h)
-  | inr (inl h) ↦ inr (inl (edge_in_wider ring a.northward b.northward e north h))
-  | inr (inr (inl h)) ↦ inr (inr (inl (edge_in_wider ring a.westward b.westward e west h)))
-  | inr (inr (inr h)) ↦ inr (inr (inr (edge_in_wider ring a.southward b.southward e south h)))
-]
+module _ (ring : List Point) (edges : List ℕ) where
+  -- the edges of a run and the next one, where the cover is wider and has that edge
+  pub run_with_edge : (a c : Run) (k : ℕ) → a.end ≡ k → c.first ≡ a.first → c.end ≡ k + 1 → a.last ≤ c.last → slice_index edges k ≤ c.last
+      → IsWider a.cover c.cover → CoversEdge ring c.cover (slice_index edges k) → (HasEqualEnds ring (slice_index edges k) → ⊥)
+      → IsRun ring edges a → IsRun ring edges c
+  run_with_edge a c k at first end last above wider within differ in_a = record {
+    covered = λ m from below. elim (cases_lt m a.end) [
+      | inl less ↦ in_wider ring a.cover c.cover (slice_index edges m) wider (in_a.covered m (omega (arith, from, first)) less)
+      | inr not ↦ subst (λ (k : ℕ). CoversEdge ring c.cover (slice_index edges k)) (omega (arith, below, not, at, end)) within
+    ];
+    differ = λ m from below. elim (cases_lt m a.end) [
+      | inl less ↦ in_a.differ m (omega (arith, from, first)) less
+      | inr not ↦ subst (λ (k : ℕ). HasEqualEnds ring (slice_index edges k) → ⊥) (omega (arith, below, not, at, end)) differ
+    ];
+    not_above = λ m from below. elim (cases_lt m a.end) [
+      | inl less ↦ omega (arith, in_a.not_above m (omega (arith, from, first)) less, last)
+      | inr not ↦ subst (λ (k : ℕ). slice_index edges k ≤ c.last) (omega (arith, below, not, at, end)) above
+    ];
+  }
 
--- the edges of a run and the next edge, where the covers are wider and have that edge
-pub run_with_edge : (ring : List Point) (a c : Run) (e : ℕ) → e ≡ a.end → c.first ≡ a.first → c.end ≡ e + 1
-    → IsWider a.eastward c.eastward → IsWider a.northward c.northward → IsWider a.westward c.westward → IsWider a.southward c.southward
-    → IsRun ring a → IsCovered ring c e → (HasEqualEnds ring e → ⊥) → IsRun ring c
-run_with_edge ring a c e next first end east north west south in_a within differ = record {
-  edges = λ k above below. elim (cases_lt k a.end) [
-    | inl less ↦ in_wider ring a c k east north west south (in_a.edges k (omega (arith, above, first)) less)
-    | inr not ↦ subst (IsCovered ring c) (omega (arith, below, not, next, end)) within
-  ];
-  differ = λ k above below. elim (cases_lt k a.end) [
-    | inl less ↦ in_a.differ k (omega (arith, above, first)) less
-    | inr not ↦ subst (λ (k : ℕ). HasEqualEnds ring k → ⊥) (omega (arith, below, not, next, end)) differ
-  ];
-}
+  -- and those of two, the second behind the first
+  pub run_with_run : (a b c : Run) → b.first ≡ a.end → c.first ≡ a.first → c.end ≡ b.end → a.last ≤ c.last → b.last ≤ c.last
+      → IsWider a.cover c.cover → IsWider b.cover c.cover → IsRun ring edges a → IsRun ring edges b → IsRun ring edges c
+  run_with_run a b c at first end last_a last_b wider_a wider_b in_a in_b = record {
+    covered = λ m from below. elim (cases_lt m a.end) [
+      | inl less ↦ in_wider ring a.cover c.cover (slice_index edges m) wider_a (in_a.covered m (omega (arith, from, first)) less)
+      | inr not ↦ in_wider ring b.cover c.cover (slice_index edges m) wider_b (in_b.covered m (omega (arith, not, at)) (omega (arith, below, end)))
+    ];
+    differ = λ m from below. elim (cases_lt m a.end) [
+      | inl less ↦ in_a.differ m (omega (arith, from, first)) less
+      | inr not ↦ in_b.differ m (omega (arith, not, at)) (omega (arith, below, end))
+    ];
+    not_above = λ m from below. elim (cases_lt m a.end) [
+      | inl less ↦ omega (arith, in_a.not_above m (omega (arith, from, first)) less, last_a)
+      | inr not ↦ omega (arith, in_b.not_above m (omega (arith, not, at)) (omega (arith, below, end)), last_b)
+    ];
+  }
 
--- the segment from p to q meets no segment of two points in the cover
-abbrev pub IsApart : Point → Point → Cover → Type 0
-IsApart p q cover = (a b : Point) → IsInCover cover a → IsInCover cover b → Meet (whole p) (whole q) (whole a) (whole b) → ⊥
-
-module _ (ring : List Point) (run : Run) (p q : Point)
-    (east : IsApart p q run.eastward) (north : IsApart p q run.northward) (west : IsApart p q run.westward) (south : IsApart p q run.southward) where
-  -- a segment that is apart from the covers meets no edge in them
-  not_met : (e : ℕ) → IsCovered ring run e → ¬ Meet (whole p) (whole q) (whole (vertex ring e)) (whole (vertex ring (e + 1)))
-  not_met e within meet = elim within [
-    | inl h ↦ east (vertex ring e) (vertex ring (e + 1)) h.from h.to meet
-    | inr (inl h) ↦ north (vertex ring e) (vertex ring (e + 1)) h.from h.to meet
-    | inr (inr (inl h)) ↦ west (vertex ring e) (vertex ring (e + 1)) h.from h.to meet
-    | inr (inr (inr h)) ↦ south (vertex ring e) (vertex ring (e + 1)) h.from h.to meet
-  ]
-
-  -- so it is apart from all edges of the run
-  pub apart_over : IsRun ring run → IsApartOver ring run.first run.end p q
-  apart_over is_run e above below = record { apart = not_met e (is_run.edges e above below); differ = is_run.differ e above below }
+  -- a segment that is apart from the cover is apart from each edge
+  pub run_passed : (run : Run) (i : ℕ) (p q : Point) → IsApart p q run.cover → IsRun ring edges run
+      → (k : ℕ) → run.first ≤ k → k < run.end → IsLeftOut ring i p q (slice_index edges k)
+  run_passed run i p q apart is k from below =
+      let e = slice_index edges k in
+      let covered = is.covered k from below in
+      inr (record { apart = λ meet. apart (vertex ring e) (vertex ring (e + 1)) covered.from covered.to meet; differ = is.differ k from below })
 
 -- an edge with two ends clashes with none that it is apart from
 pub clear_of_apart : (ring : List Point) (i l : ℕ) → (HasEqualEnds ring i → ⊥) → IsApartFrom ring l (vertex ring i) (vertex ring (i + 1)) → Clash ring i l → ⊥
@@ -71,3 +73,18 @@ clear_of_apart ring i l differ h clash = elim clash [
   | inr (inl equal) ↦ h.differ equal
   | inr (inr shared) ↦ h.apart (meet_of_shared ring i l shared)
 ]
+
+-- nor, below them, with those that it has passed
+pub clear_of_passed : (ring : List Point) (i e : ℕ) → (HasEqualEnds ring i → ⊥) → IsLeftOut ring i (vertex ring i) (vertex ring (i + 1)) e → i < e
+    → Clash ring i e → ⊥
+clear_of_passed ring i e differ (inl not_above) below clash = absurd (omega (arith, not_above, below))
+clear_of_passed ring i e differ (inr apart) below clash = clear_of_apart ring i e differ apart clash
+
+-- the edges of a list by their kinds are its edges
+pub edges_by_kinds : (ring : List Point) (kinds edges : List ℕ) → length kinds ≡ length ring → ((e : ℕ) → e < length kinds → Contains edges e)
+    → All (λ e. e < length kinds) edges → length edges ≤ 2 * length ring → ListsEdges ring edges
+edges_by_kinds ring kinds edges all each range few = record {
+  each = λ e below. each e (omega (arith, all, below));
+  range = subst (λ n. All (λ e. e < n) edges) all range;
+  few = few;
+}

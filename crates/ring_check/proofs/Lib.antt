@@ -1,18 +1,19 @@
 mod AreaSoFar
 mod Below
-mod BoxSides
 mod Bounds
 mod EdgeEnds
 mod EdgeRuns
 mod GapMoves
+mod LineNumbers
+mod LineSides
+mod Multiples
 mod Orders
 pub mod Oriented
+mod ProbeNumbers
 mod Reflex
-mod RunTrees
-mod RunsAsked
 mod SharedPoints
+mod SlabNumbers
 mod SlabSides
 mod StatusEdits
 mod SweptArea
 mod TwoEdits
-mod Walks

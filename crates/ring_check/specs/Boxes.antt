@@ -1,5 +1,5 @@
 -- Bounding boxes of edges, and edges apart from a segment. This project's own.
-use Rattle.std.specs.Prelude.{ℕ, ◌+◌, ◌<◌, ◌≤◌, List}
+use Rattle.std.specs.Prelude.{ℕ, ◌+◌, List}
 use Rattle.plane.specs.Point.{IsInBounds, Point, whole}
 use Rattle.plane.specs.Segment.{Meet}
 use Rattle.rings.specs.Ring.{vertex}
@@ -18,7 +18,3 @@ pub record EnclosesEdge (ring : List Point) (box : BoundingBox) (e : ℕ) : Type
 pub record IsApartFrom (ring : List Point) (e : ℕ) (p q : Point) : Type 0 where
   pub apart : ¬ Meet (whole p) (whole q) (whole (vertex ring e)) (whole (vertex ring (e + 1)))
   pub differ : ¬ HasEqualEnds ring e
-
--- so it is with each edge from number `first` to before `end`
-abbrev pub IsApartOver : List Point → ℕ → ℕ → Point → Point → Type 0
-IsApartOver ring first end p q = (e : ℕ) → first ≤ e → e < end → IsApartFrom ring e p q

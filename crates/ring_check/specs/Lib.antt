@@ -4,5 +4,6 @@ pub mod Ends
 pub mod Keys
 pub mod Order
 pub mod Oriented
+pub mod Probes
 pub mod Runs
 pub mod Slabs

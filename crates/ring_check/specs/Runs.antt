@@ -1,46 +1,31 @@
--- Runs of consecutive edges, with covers of them. This project's own. No public clause cites this module.
-use Rattle.std.specs.Prelude.{ℕ, ◌-◌, ◌<◌, ◌≤◌, ◌⊎◌, ◌*◌, ◌==◌, if◌then◌else◌, nat_lt, List}
-use Rattle.std.specs.List.{sum_by}
+-- Runs of places of a list of edges, with covers of them, and the index that they make. This project's own. No public clause cites this
+-- module.
+use Rattle.std.specs.List.{All, Contains}
+use Rattle.std.specs.Prelude.{ℕ, ◌*◌, ◌<◌, ◌≤◌, ◌⊎◌, List, length, slice_index}
 use Rattle.plane.specs.Point.{Point}
 use Rattle.rings.specs.Simple.{HasEqualEnds}
+use Rattle.ring_check.specs.Boxes.{IsApartFrom}
 use Rattle.ring_check.specs.Covers.{CoversEdge}
+use Rattle.ring_check.specs.declared.index.Index.{Index}
 use Rattle.ring_check.specs.declared.runs.Run.{Run}
 
--- edge e is in one of the covers
-abbrev pub IsCovered : List Point → Run → ℕ → Type 0
-IsCovered ring run e =
-    CoversEdge ring run.eastward e ⊎ CoversEdge ring run.northward e
-    ⊎ CoversEdge ring run.westward e ⊎ CoversEdge ring run.southward e
+-- its edges are in the cover, none of them has equal ends, and none is above the last
+pub record IsRun (ring : List Point) (edges : List ℕ) (run : Run) : Type 0 where
+  pub covered : (k : ℕ) → run.first ≤ k → k < run.end → CoversEdge ring run.cover (slice_index edges k)
+  pub differ : (k : ℕ) → run.first ≤ k → k < run.end → HasEqualEnds ring (slice_index edges k) → ⊥
+  pub not_above : (k : ℕ) → run.first ≤ k → k < run.end → slice_index edges k ≤ run.last
 
--- its edges are in the covers, and none of them has equal ends
-pub record IsRun (ring : List Point) (run : Run) : Type 0 where
-  pub edges : (e : ℕ) → run.first ≤ e → e < run.end → IsCovered ring run e
-  pub differ : (e : ℕ) → run.first ≤ e → e < run.end → HasEqualEnds ring e → ⊥
+-- edge e is not above edge i, or the segment from p to q does not meet it
+abbrev pub IsLeftOut : List Point → ℕ → Point → Point → ℕ → Type 0
+IsLeftOut ring i p q e = (e ≤ i) ⊎ IsApartFrom ring e p q
 
--- how many edges it has
-abbrev pub run_length : Run → ℕ
-run_length run = run.end - run.first
+-- each edge of the ring is at a place, and no number beyond; there are at most twice as many places
+pub record ListsEdges (ring : List Point) (edges : List ℕ) : Type 0 where
+  pub each : (e : ℕ) → e < length ring → Contains edges e
+  pub range : All (λ e. e < length ring) edges
+  pub few : length edges ≤ 2 * length ring
 
--- 1 where it begins at that edge
-abbrev pub begins_at : ℕ → Run → ℕ
-begins_at first run = if run.first == first then 1 else 0
-
--- how many of some runs begin at an edge
-abbrev pub begin_at : ℕ → List Run → ℕ
-begin_at first runs = sum_by (begins_at first) runs
-
--- 1 where it begins before that edge
-abbrev pub is_begun : ℕ → Run → ℕ
-is_begun end run = if nat_lt run.first end then 1 else 0
-
--- how many of some runs begin before an edge
-abbrev pub begun : ℕ → List Run → ℕ
-begun end runs = sum_by (is_begun end) runs
-
--- before each of so many edges one for 15 edges does
-abbrev pub HaveBegun : ℕ → List Run → Type 0
-HaveBegun n runs = (e : ℕ) → e ≤ n → e ≤ 15 * begun e runs
-
--- how many edges some runs have
-abbrev pub total_length : List Run → ℕ
-total_length runs = sum_by run_length runs
+-- so it is with the edges of the index, and its runs are those of them
+pub record IsEdgeIndex (ring : List Point) (index : Index) : Type 0 where
+  pub edges : ListsEdges ring index.edges.items
+  pub runs : All (IsRun ring index.edges.items) index.runs.items

@@ -1,42 +1,30 @@
-// A box and a slab round edges, of which either can show that another edge is apart from all of them.
-ghost use Rattle.std.specs.Prelude.{◌≡◌, ◌+◌, ◌<◌, ◌≤◌, ◌^◌, IsTrue, length, unsigned_abs};
-ghost use Rattle.plane.specs.Point.{Point, whole};
-ghost use Rattle.plane.specs.Segment.{Meet};
-ghost use Rattle.exact_plane.specs.Boxes.{Encloses};
-ghost use Rattle.exact_plane.specs.Direction.{turn_of};
-ghost use Rattle.ring_check.specs.Covers.{CoversEdge, IsInCover};
+// A box and a slab round edges, of which each can show that another edge is apart from all of them, and so can both together.
+ghost use Rattle.std.specs.Int.{int_max, int_min};
+ghost use Rattle.std.specs.Prelude.{◌≡◌, ◌+◌, ◌<◌, ◌≤◌, ◌≤ℤ◌, ◌*ℤ◌, ◌^◌, ℤ, IsTrue, length, unsigned_abs};
+ghost use Rattle.plane.specs.Point.{IsInLimit, Point};
+ghost use Rattle.ring_check.specs.Covers.{AreDisjoint, CoversEdge, IsInCover, KeepSide};
 
-use crate::boxes::box_of_edge;
-use crate::clash::corner;
+use crate::place::Probe;
 use crate::slab::Slab;
-use exact_plane::{BoundingBox, Direction, Pt, Steps, turn};
+use exact_plane::{BoundingBox, Pt, Steps};
 use std::sync::ledger::Ledger;
+
+// Beyond all coordinates.
+const FARTHEST: i64 = 1 << 23;
 
 // The points that are in both.
 #[derive(Clone, Copy)]
 pub(crate) struct Cover {
     pub bounds: BoundingBox,
-    slab: Slab,
+    pub slab: Slab,
 }
 
 impl Cover {
-    // No point; the slab goes the way from one point to another.
-    pub fn along<L: Ledger>(from: &Pt, to: &Pt, weight: u64, steps: &mut Steps<L>) -> Cover
-        ensures { steps.new ≡ steps.old + 128 }
-    {
+    // No point; the slab goes this way.
+    pub fn along(slab: &Slab) -> Cover {
         Cover {
             bounds: BoundingBox::empty(),
-            slab: Slab::along(from, to, weight, steps),
-        }
-    }
-
-    // No point; the slab goes the way of that of the two with the greater weight.
-    pub fn heavier<L: Ledger>(&self, other: &Cover, steps: &mut Steps<L>) -> Cover
-        ensures { steps.new ≡ steps.old + 128 }
-    {
-        Cover {
-            bounds: BoundingBox::empty(),
-            slab: self.slab.heavier(&other.slab).line(steps),
+            slab: *slab,
         }
     }
 
@@ -45,76 +33,100 @@ impl Cover {
         requires { e < length points.now }
         ensures edge { CoversEdge points.now result e }
         ensures old { (q : Point) → IsInCover self.now q → IsInCover result q }
-        ensures steps { steps.new ≡ steps.old + 512 }
+        ensures steps { steps.new ≡ steps.old + 256 }
     {
-        let bounds = box_of_edge(points, e, steps);
-        let slab = self.slab.with(&corner(points, e), steps);
+        let edge = Probe::of(points, e, steps);
         Cover {
-            bounds: self.bounds.joined(&bounds),
-            slab: slab.with(&corner(points, e + 1), steps),
+            bounds: self.bounds.joined(&edge.bounds),
+            slab: self.slab.with(&edge.from).with(&edge.to),
         }
     }
 
-    // Whether its box, its slab or the segment's line shows that a segment, which is in another box, meets no segment of two of its points.
-    pub fn is_apart<L: Ledger>(
-        &self,
-        p: &Pt,
-        q: &Pt,
-        bounds: &BoundingBox,
-        steps: &mut Steps<L>,
-    ) -> bool
-        requires p { Encloses bounds.now p.now }
-        requires q { Encloses bounds.now q.now }
-        ensures apart { IsTrue result → (a b : Point) → IsInCover self.now a → IsInCover self.now b
-            → Meet (whole p.now) (whole q.now) (whole a) (whole b) → ⊥ }
-        ensures steps { steps.new ≤ steps.old + 512 }
+    // The cover of the points of this one and of another, whose slab goes the same way.
+    pub fn joined(&self, other: &Cover) -> Cover
+        requires across { self.now.slab.across ≡ other.now.slab.across }
+        requires up { self.now.slab.up ≡ other.now.slab.up }
+        ensures first { (q : Point) → IsInCover self.now q → IsInCover result q }
+        ensures second { (q : Point) → IsInCover other.now q → IsInCover result q }
     {
-        if !bounds.overlaps(&self.bounds) {
-            return true;
+        Cover {
+            bounds: self.bounds.joined(&other.bounds),
+            slab: self.slab.joined(&other.slab),
         }
-        self.slab.misses(p, q, steps) || is_beside(&self.bounds, p, q, steps)
+    }
+
+    // Whether its box, its slab or the line of an edge shows that the edge meets no segment of two of its points.
+    pub fn is_apart(&self, edge: &Probe) -> bool
+        ensures { IsTrue result → AreDisjoint self.now edge.now }
+    {
+        !edge.bounds.overlaps(&self.bounds) || self.slab.misses(edge) || self.is_beside(edge)
+    }
+
+    // Whether all of it is to one side of the line of an edge. Where the edge goes (a, b), and the slab goes (c, d), a point that is h to
+    // the right of the way of the slab is to a side of the line that is told by the sign of x (a d - b c) - a h and a number, which is that
+    // of the side times c, and by y (a d - b c) - b h and another, which is that times d. Both are greatest at a corner.
+    fn is_beside(&self, edge: &Probe) -> bool
+        ensures { IsTrue result → AreDisjoint self.now edge.now }
+    {
+        let (slab, around, way) = (&self.slab, &self.bounds, &edge.way);
+        let slope = way.across * slab.up - way.up * slab.across;
+        if slab.up.abs() < slab.across.abs() {
+            let line = slab.across * edge.here;
+            keep_side(
+                slope,
+                way.across,
+                line,
+                within(around.west),
+                within(around.east),
+                slab,
+            )
+        } else {
+            let line = slab.up * edge.here;
+            keep_side(
+                slope,
+                way.up,
+                line,
+                within(around.south),
+                within(around.north),
+                slab,
+            )
+        }
     }
 }
 
-// Whether all of a box is to one side of the line from `p` to `q`, since its corners are.
-fn is_beside<L: Ledger>(around: &BoundingBox, p: &Pt, q: &Pt, steps: &mut Steps<L>) -> bool
-    ensures apart { IsTrue result → (a b : Point) → Encloses around.now a → Encloses around.now b
-        → Meet (whole p.now) (whole q.now) (whole a) (whole b) → ⊥ }
-    ensures steps { steps.new ≤ steps.old + 4 }
+// Whether `slope` t - `by` h + `line` has one sign, and is not zero, for all t from `low` to `high` and all offsets h of the slab.
+fn keep_side(slope: i64, by: i64, line: i64, low: i64, high: i64, slab: &Slab) -> bool
+    requires slope { unsigned_abs slope < 2 ^ 37 }
+    requires by { unsigned_abs by < 2 ^ 24 }
+    requires line { unsigned_abs line < 2 ^ 61 }
+    requires low { unsigned_abs low ≤ 2 ^ 23 }
+    requires high { unsigned_abs high ≤ 2 ^ 23 }
+    ensures side { IsTrue result → KeepSide slope by line low high slab.now.least slab.now.greatest }
 {
-    let side = side_of(around.west, around.south, p, q, steps);
-    if side == Direction::Straight {
-        return false;
-    }
-    if !is_on(side, around.east, around.south, p, q, steps) {
-        return false;
-    }
-    if !is_on(side, around.west, around.north, p, q, steps) {
-        return false;
-    }
-    is_on(side, around.east, around.north, p, q, steps)
+    let (least, most) = multiples(slope, low, high);
+    let (right, left) = multiples(by, slab.least, slab.greatest);
+    0 < least - left + line || most - right + line < 0
 }
 
-// Whether a place is on this side of the line from `p` to `q`.
-fn is_on<L: Ledger>(side: Direction, x: i32, y: i32, p: &Pt, q: &Pt, steps: &mut Steps<L>) -> bool
-    requires x { unsigned_abs x < 2 ^ 31 }
-    requires y { unsigned_abs y < 2 ^ 31 }
-    requires turns { ¬ (side ≡ Direction.Straight) }
-    ensures side { IsTrue result → side ≡ turn_of (whole p.now) (whole q.now) (whole (record { x = x; y = y })) }
-    ensures steps { steps.new ≤ steps.old + 1 }
+// The nearest number to one that is as great as a coordinate can be.
+fn within(z: i32) -> i64
+    requires { unsigned_abs z < 2 ^ 31 }
+    ensures fits { unsigned_abs result ≤ 2 ^ 23 }
+    ensures above { (x : ℤ) → IsInLimit x → z ≤ℤ x → result ≤ℤ x }
+    ensures below { (x : ℤ) → IsInLimit x → x ≤ℤ z → x ≤ℤ result }
 {
-    side_of(x, y, p, q, steps) == side
+    (z as i64).clamp(-FARTHEST, FARTHEST)
 }
 
-// The side of the line from `p` to `q` that a place is on; `Straight` also where it is beyond the limits.
-fn side_of<L: Ledger>(x: i32, y: i32, p: &Pt, q: &Pt, steps: &mut Steps<L>) -> Direction
-    requires x { unsigned_abs x < 2 ^ 31 }
-    requires y { unsigned_abs y < 2 ^ 31 }
-    ensures side { ¬ (result ≡ Direction.Straight) → result ≡ turn_of (whole p.now) (whole q.now) (whole (record { x = x; y = y })) }
-    ensures steps { steps.new ≤ steps.old + 1 }
+// The least and the greatest multiple of a number by the whole numbers from one to another.
+fn multiples(by: i64, low: i64, high: i64) -> (i64, i64)
+    requires first { unsigned_abs (by *ℤ low) < 2 ^ 62 }
+    requires second { unsigned_abs (by *ℤ high) < 2 ^ 62 }
+    ensures least { (z : ℤ) → low ≤ℤ z → z ≤ℤ high → result.0 ≤ℤ (by *ℤ z) }
+    ensures greatest { (z : ℤ) → low ≤ℤ z → z ≤ℤ high → (by *ℤ z) ≤ℤ result.1 }
+    ensures least_is { result.0 ≡ int_min (by *ℤ low) (by *ℤ high) }
+    ensures greatest_is { result.1 ≡ int_max (by *ℤ low) (by *ℤ high) }
 {
-    match Pt::of(x as i64, y as i64) {
-        Some(corner) => turn(p, q, &corner, steps),
-        None => Direction::Straight,
-    }
+    let (a, b) = (by * low, by * high);
+    (a.min(b), a.max(b))
 }

@@ -1,26 +1,40 @@
-// Slabs round points, which show that a segment is apart from others.
-ghost use Rattle.std.specs.Prelude.{◌≡◌, ◌+◌, ◌<◌, ◌≤ℤ◌, ◌^◌, IsTrue, unsigned_abs};
-ghost use Rattle.plane.specs.Point.{Point, whole};
-ghost use Rattle.plane.specs.Segment.{Meet};
-ghost use Rattle.ring_check.specs.Slabs.{IsInSlab, slab_height};
+// Slabs round edges, which show that another edge is apart from them.
+ghost use Rattle.std.specs.Prelude.{◌≡◌, ◌<◌, ◌≤◌, ◌^◌, ◌<ℤ◌, IsTrue, pos, unsigned_abs};
+ghost use Rattle.plane.specs.Point.{Point};
+ghost use Rattle.ring_check.specs.Probes.{at, offset};
+ghost use Rattle.ring_check.specs.Slabs.{AreBeyond, IsInSlab};
 
-use crate::orientation::{swept, swept_by};
+use crate::place::{Place, Probe, Stretch};
 use crate::slab::Slab;
-use exact_plane::{Pt, Steps};
-use std::sync::ledger::Ledger;
+
+// Beyond all offsets of points.
+const BEYOND: i64 = 1 << 37;
+
+// A way is kept as whole numbers below this.
+const FINE: i64 = 1 << 12;
 
 impl Slab {
-    // The line through these two points.
-    pub fn along<L: Ledger>(from: &Pt, to: &Pt, weight: u64, steps: &mut Steps<L>) -> Slab
-        ensures { steps.new ≡ steps.old + 128 }
-    {
-        let height = swept(to, from, steps);
+    // No point, and no way.
+    pub fn none() -> Slab {
         Slab {
-            from: *from,
-            to: *to,
+            across: 0,
+            up: 0,
+            weight: 0,
+            least: BEYOND,
+            greatest: -BEYOND,
+        }
+    }
+
+    // No point, along an edge that goes so far.
+    pub fn along(edge: &Stretch) -> Slab {
+        let weight = edge.length();
+        let scale = weight / FINE + 1;
+        Slab {
+            across: scaled(edge.across, scale),
+            up: scaled(edge.up, scale),
             weight,
-            least: height,
-            greatest: height,
+            least: BEYOND,
+            greatest: -BEYOND,
         }
     }
 
@@ -33,71 +47,79 @@ impl Slab {
         }
     }
 
-    // The line that it was made of.
-    pub fn line<L: Ledger>(&self, steps: &mut Steps<L>) -> Slab
-        ensures { steps.new ≡ steps.old + 128 }
+    // The points of this way between two offsets.
+    fn between(&self, least: i64, greatest: i64) -> Slab
+        requires least { unsigned_abs least ≤ 2 ^ 37 }
+        requires greatest { unsigned_abs greatest ≤ 2 ^ 37 }
+        ensures across { result.across ≡ self.now.across }
+        ensures up { result.up ≡ self.now.up }
+        ensures least { result.least ≡ least }
+        ensures greatest { result.greatest ≡ greatest }
     {
-        Slab::along(&self.from, &self.to, self.weight, steps)
-    }
-
-    // The slab round this one and a point.
-    pub fn with<L: Ledger>(&self, p: &Pt, steps: &mut Steps<L>) -> Slab
-        ensures new { IsInSlab result p.now }
-        ensures old { (q : Point) → IsInSlab self.now q → IsInSlab result q }
-        ensures steps { steps.new ≡ steps.old + 192 }
-    {
-        let height = self.height(p, steps);
         Slab {
-            from: self.from,
-            to: self.to,
+            across: self.across,
+            up: self.up,
             weight: self.weight,
-            least: lesser(self.least, height),
-            greatest: greater(self.greatest, height),
+            least,
+            greatest,
         }
     }
 
-    // Whether both ends of a segment are beyond one of its lines.
-    pub fn misses<L: Ledger>(&self, p: &Pt, q: &Pt, steps: &mut Steps<L>) -> bool
-        ensures apart { IsTrue result → (a b : Point) → IsInSlab self.now a → IsInSlab self.now b
-            → Meet (whole p.now) (whole q.now) (whole a) (whole b) → ⊥ }
-        ensures steps { steps.new ≡ steps.old + 384 }
+    // The slab round its points and one more.
+    pub fn with(&self, p: &Place) -> Slab
+        ensures new { IsInSlab result (at p.now) }
+        ensures old { (v : Point) → IsInSlab self.now v → IsInSlab result v }
     {
-        let (first, second) = (self.height(p, steps), self.height(q, steps));
+        let offset = self.offset(p);
+        self.between(self.least.min(offset), self.greatest.max(offset))
+    }
+
+    // Whether it goes just the way of another.
+    pub fn goes_with(&self, other: &Slab) -> bool
+        ensures across { IsTrue result → self.now.across ≡ other.now.across }
+        ensures up { IsTrue result → self.now.up ≡ other.now.up }
+    {
+        self.across == other.across && self.up == other.up
+    }
+
+    // The slab round this one and another that goes the same way.
+    pub fn joined(&self, other: &Slab) -> Slab
+        requires across { self.now.across ≡ other.now.across }
+        requires up { self.now.up ≡ other.now.up }
+        ensures first { (v : Point) → IsInSlab self.now v → IsInSlab result v }
+        ensures second { (v : Point) → IsInSlab other.now v → IsInSlab result v }
+    {
+        self.between(
+            self.least.min(other.least),
+            self.greatest.max(other.greatest),
+        )
+    }
+
+    // Whether both ends of an edge are beyond one of its lines.
+    pub fn misses(&self, edge: &Probe) -> bool
+        ensures { IsTrue result → AreBeyond self.now (at edge.now.from) (at edge.now.to) }
+    {
+        let (first, second) = (self.offset(&edge.from), self.offset(&edge.to));
         if first < self.least {
             return second < self.least;
         }
         self.greatest < first && self.greatest < second
     }
 
-    // How far a point is to the left of the way, as twice an area.
-    fn height<L: Ledger>(&self, p: &Pt, steps: &mut Steps<L>) -> i64
-        ensures value { result ≡ slab_height self.now p.now }
-        ensures small { unsigned_abs result < 2 ^ 48 }
-        ensures steps { steps.new ≡ steps.old + 192 }
+    // How far right of its way a place is.
+    fn offset(&self, p: &Place) -> i64
+        ensures value { result ≡ offset self.now.across self.now.up p.now.x p.now.y }
+        ensures fits { unsigned_abs result ≤ 2 ^ 37 }
     {
-        let p = p.parts(steps);
-        swept_by(self.to.parts(steps), p) - swept_by(self.from.parts(steps), p)
+        self.up * p.x - self.across * p.y
     }
 }
 
-// The lesser of two numbers.
-fn lesser(a: i64, b: i64) -> i64
-    requires a_fits { unsigned_abs a < 2 ^ 48 }
-    requires b_fits { unsigned_abs b < 2 ^ 48 }
-    ensures fits { unsigned_abs result < 2 ^ 48 }
-    ensures first { result ≤ℤ a }
-    ensures second { result ≤ℤ b }
+// A number of a way, so much less that it is kept.
+fn scaled(z: i64, scale: i64) -> i64
+    requires z { unsigned_abs z < 2 ^ 24 }
+    requires scale { pos 0 <ℤ scale }
+    ensures { unsigned_abs result < 2 ^ 12 }
 {
-    if a < b { a } else { b }
-}
-
-// The greater of two numbers.
-fn greater(a: i64, b: i64) -> i64
-    requires a_fits { unsigned_abs a < 2 ^ 48 }
-    requires b_fits { unsigned_abs b < 2 ^ 48 }
-    ensures fits { unsigned_abs result < 2 ^ 48 }
-    ensures first { a ≤ℤ result }
-    ensures second { b ≤ℤ result }
-{
-    if a < b { b } else { a }
+    (z / scale).clamp(1 - FINE, FINE - 1)
 }
