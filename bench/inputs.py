@@ -351,11 +351,28 @@ def sheared(n: int) -> Ring:
     return [((3 * x + y) // 4, (x + 2 * y) // 4) for x, y in spiral(n)]
 
 
+def hexagonal(n: int) -> Ring:
+    """A corridor that winds inward round a hexagon, whose sides go up and to the right, and down and to the left, at two slopes."""
+    ways = [(3, 0), (3, 1), (0, 1), (-3, 0), (-3, -1), (0, -1)]
+    arms = n // 2
+    outer = [(0, 0)]
+    for i in range(arms - 1):
+        length = 4 * (arms - i)
+        x, y = outer[-1]
+        dx, dy = ways[i % 6]
+        outer.append((x + dx * length, y + dy * length))
+    inner = []
+    for i, (x, y) in enumerate(outer):
+        dx, dy = ways[(i + 1) % 6]
+        inner.append((x + dx, y + dy))
+    return [(WIDTH // 8 * x, WIDTH * y) for x, y in outer + inner[::-1]]
+
+
 Shape = Callable[[int], Ring]
 SHAPES: Dict[str, Shape] = {shape.__name__: shape for shape in (comb, star, maze, spiral)}
 SIX_SHAPES: Dict[str, Shape] = SHAPES | {shape.__name__: shape for shape in (convex, moon)}
 MORE_SHAPES: Dict[str, Shape] = SIX_SHAPES | {shape.__name__: shape for shape in (
-    skyline, saw, fan, arch, hourglass, zigzag, slope, wall, fence, turned, askew, sheared, broom)}
+    skyline, saw, fan, arch, hourglass, zigzag, slope, wall, fence, turned, askew, sheared, hexagonal, broom)}
 WAYS: Dict[str, Shape] = {'comb': way_along_comb, 'convex': way_across_convex, 'saw': way_past_teeth}
 
 

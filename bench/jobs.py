@@ -371,7 +371,7 @@ KINDS = [
     Kind('guards', SIX_SHAPES, guards),
     Kind('pair', SIX_SHAPES, pair),
     Kind('sights', SIX_SHAPES, sights),
-    Kind('polygon', ['zigzag', 'slope', 'turned', 'sheared'], refused, 'refused', hostile=True),
+    Kind('polygon', ['zigzag', 'slope', 'turned', 'sheared', 'hexagonal'], refused, 'refused', hostile=True),
     Kind('inside', ['maze'], inside_again, hostile=True),
     Kind('see', ['convex'], see_all, hostile=True),
     Kind('kernel', ['convex'], kernel, hostile=True),
