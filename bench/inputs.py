@@ -352,7 +352,7 @@ def sheared(n: int) -> Ring:
 
 
 def hexagonal(n: int) -> Ring:
-    """A corridor that winds inward round a hexagon, whose sides go up and to the right, and down and to the left, at two slopes."""
+    """A corridor that winds inward round a sheared hexagon. WIDTH is divided by 8."""
     ways = [(3, 0), (3, 1), (0, 1), (-3, 0), (-3, -1), (0, -1)]
     arms = n // 2
     outer = [(0, 0)]
