@@ -23,7 +23,7 @@ pub(crate) fn place_of_third<T: Turns, L: Ledger>(
     requires within { p < length order.now }
     requires funnel { IsFunnelTo (T.corners board.now) (T.start board.now) mesh.now order.now p funnel.now }
     ensures reached { IsThirdFrom (T.corners board.now) (T.start board.now) mesh.now order.now p funnel.now result }
-    ensures steps { let b = binary_digits (length (T.corners board.now)) in steps.new ≤ steps.old + b * (4 * b + 3) }
+    ensures steps { let b = binary_digits (length (T.corners board.now)) in steps.new ≤ steps.old + b * (7 * b + 3) }
 {
     let third = door_of(mesh, order[p]).third;
     funnel.place(board, mesh.count() + 2, Spot::Corner(third), steps)

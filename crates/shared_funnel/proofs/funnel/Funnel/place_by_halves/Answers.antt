@@ -7,7 +7,7 @@ use Rattle.exact_plane.specs.Spot.{point_named}
 use Rattle.shared_seq.proofs.Searches.{after_is_part, before_is_part, whole_is_part}
 use Rattle.shared_seq.specs.Digits.{binary_digits}
 use Rattle.shared_funnel.proofs.Halving.{IsHalved, halving_starts, is_in_after, is_in_before, left_is, next_is, round_paid}
-use Rattle.shared_funnel.proofs.funnel.Funnel.place.Goals as goal
+use Rattle.shared_funnel.proofs.funnel.Funnel.place_by_halves.Goals as goal
 use Rattle.shared_funnel.specs.Listed.{point_of, listed_points}
 use Rattle.shared_funnel.specs.Preceding.{IsPrecededBy}
 
