@@ -62,8 +62,8 @@ impl Grown {
     }
 
     // Drops it along the triangles of the mesh.
-    pub(crate) fn drop_along(self, mesh: &Mesh) {
-        self.tree.drop_along(mesh);
+    pub(crate) fn drop_along(self, alloc: Global, mesh: &Mesh) {
+        self.tree.drop_along(alloc, mesh);
     }
 
     // What comes before each vertex on its path from the source, by the list that the ring was made of.

@@ -140,7 +140,7 @@ impl Session {
         ensures paced { IsPaced self.old command steps.old steps.new }
     {
         let asked = ask(alloc, self.version(), &self.held, command, steps)?;
-        commit(&mut self.two, &mut self.held, asked.change);
+        commit(alloc, &mut self.two, &mut self.held, asked.change);
         Ok(asked.reply)
     }
 
@@ -200,7 +200,7 @@ impl Session {
     {
         let asked = ask(alloc, self.version(), &self.held, command, steps)?;
         put_reply(out, &asked.reply, steps)?;
-        commit(&mut self.two, &mut self.held, asked.change);
+        commit(alloc, &mut self.two, &mut self.held, asked.change);
         Ok(())
     }
 }

@@ -20,6 +20,9 @@ use std::marker::Model;
 use std::sync::ledger::Ledger;
 use tri_mesh::Mesh;
 
+// The nodes of so many funnels are still in the cache when the last of these is dropped.
+const NEAR: usize = 128;
+
 /// The paths from a start to every vertex of a polygon: what is before each vertex on its path, and the funnel at the side over
 /// which each triangle but the home is entered.
 #[derive(Drop)]
@@ -129,12 +132,15 @@ impl PathTree {
     }
 
     /// Drops the tree, funnel by funnel along an order of the mesh's triangles outward. Along another one its funnels were made, and most
-    /// triangles follow each other in both; so nodes that were made one after another are given back so.
-    pub fn drop_along(self, mesh: &Mesh) {
+    /// triangles follow each other in both; so nodes that were made one after another are given back so, and are joined while they are near.
+    pub fn drop_along(self, alloc: Global, mesh: &Mesh) {
         let PathTree { mut funnels, .. } = self;
-        for at in mesh.rooted().order {
+        for (k, at) in mesh.rooted().order.iter().enumerate() {
             if let Some(funnel) = funnels.get_mut(at.tri as usize) {
                 *funnel = None;
+            }
+            if k % NEAR == 0 {
+                join_freed(alloc);
             }
         }
     }
@@ -150,6 +156,12 @@ impl PathTree {
             _ => None,
         }
     }
+}
+
+// Asks for a block of 2,048 bytes and gives it back. Small blocks that were given back are kept apart by the C library, and joined when it
+// is asked for a greater one; later they would have left the cache.
+fn join_freed(alloc: Global) {
+    let _: Result<Vec<u64>, _> = Vec::with_capacity(alloc, 256);
 }
 
 // The point from which a goal in triangle `tri` is reached over the side by which the triangle is entered: by the funnel there.
