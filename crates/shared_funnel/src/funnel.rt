@@ -193,9 +193,13 @@ impl Funnel {
             IsTrue result ↔ IsPassed (listed_points (T.corners board.now) (T.start board.now) self.now.list) self.now.apex place (whole (at y)) }
         ensures steps { let b = binary_digits (length self.now.list) in steps.new ≤ steps.old + 4 * b + 3 }
     {
-        let left = Some(self.list.get(place - 1, steps));
-        let right = self.list.get(place, steps);
-        self.is_passed(board, n, Edge { left, right, place }, y, steps)
+        let (left, right) = self.list.pair(place, steps);
+        let edge = Edge {
+            left: Some(left),
+            right,
+            place,
+        };
+        self.is_passed(board, n, edge, y, steps)
     }
 
     // Whether the way to `y` passes an edge. The one before the first place counts as passed.

@@ -13,6 +13,9 @@ use std::marker::Model;
 use std::rc::Rc;
 use std::sync::ledger::Ledger;
 
+// From so many values on a list grows at its ends more often than it is cut there.
+const LONG: usize = 16;
+
 /// A list of numbers that shares its nodes with the lists that it was made from. No call changes a list.
 #[derive(Drop)]
 pub struct SharedSeq {
@@ -67,6 +70,17 @@ impl SharedSeq {
         ensures steps { steps.new ≤ steps.old + 2 * binary_digits (length self.now) + 1 }
     {
         tree::get(self.node(), i, steps)
+    }
+
+    /// The values at i - 1 and at i.
+    pub fn pair<L: Ledger>(&self, i: usize, steps: &mut Steps<L>) -> (u32, u32)
+        requires later { 0 < i }
+        requires within { i < length self.now }
+        ensures first { result.0 ≡ slice_index self.now (i - 1) }
+        ensures second { result.1 ≡ slice_index self.now i }
+        ensures steps { steps.new ≤ steps.old + 2 * binary_digits (length self.now) + 1 }
+    {
+        tree::pair(self.node(), i, steps)
     }
 
     /// The whole list, that a search may halve.
@@ -168,7 +182,9 @@ impl SharedSeq {
         ensures list { IfOk result (λ list. list ≡ take i self.now ++ value ∷ []) }
         ensures steps { steps.new ≤ steps.old + 48 * (binary_digits (length self.now) + 1) }
     {
-        Ok(SharedSeq::of(Some(tree::piece(alloc, Side::Left, self.root(), i, value, steps)?)))
+        let long = self.len >= LONG;
+        let piece = tree::piece(alloc, Side::Left, self.root(), i, value, long, steps)?;
+        Ok(SharedSeq::of(Some(piece)))
     }
 
     /// The value, and then the list without its first i values.
@@ -184,7 +200,9 @@ impl SharedSeq {
         ensures list { IfOk result (λ list. list ≡ value ∷ drop i self.now) }
         ensures steps { steps.new ≤ steps.old + 48 * (binary_digits (length self.now) + 1) }
     {
-        Ok(SharedSeq::of(Some(tree::piece(alloc, Side::Right, self.root(), i, value, steps)?)))
+        let long = self.len >= LONG;
+        let piece = tree::piece(alloc, Side::Right, self.root(), i, value, long, steps)?;
+        Ok(SharedSeq::of(Some(piece)))
     }
 
     /// The value, and then the list.

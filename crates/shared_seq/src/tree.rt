@@ -1,7 +1,7 @@
 // Lists as height-balanced trees of nodes. Each call makes the nodes that are new and shares the others.
 ghost use Rattle.std.specs.Prelude.{◌≡◌, ◌+◌, ◌-◌, ◌*◌, ◌^◌, ◌<◌, ◌≤◌, ◌∷◌, ◌++◌, max, IfOk, length, OnErr, slice_index, slice_set};
 ghost use Rattle.std.specs.List.{insert, remove};
-ghost use Rattle.shared_seq.specs.Tree.{DifferByAtMost, HaveRoomBetween, IsGrownHeight, IsJoinedTree, IsKeptPart, IsTurnedTree, kept_length, lent_at, tree_at};
+ghost use Rattle.shared_seq.specs.Tree.{DifferByAtMost, HaveRoomBetween, IsFork, IsGrownHeight, IsJoinedTree, IsKeptPart, IsTurnedTree, Tree, kept_length, lent_at, tree_at};
 
 use crate::node::{Node, Parts, Subtree, Way, count, height, shared};
 use crate::side::Side;
@@ -26,6 +26,29 @@ pub(crate) fn get<L: Ledger>(tree: &Rc<Node>, i: usize, steps: &mut Steps<L>) ->
         (Some(left), _) if i < before => get(left, i, steps),
         (_, Some(right)) if before < i => get(right, i - before - 1, steps),
         _ => value,
+    }
+}
+
+// The values at i - 1 and at i.
+pub(crate) fn pair<L: Ledger>(tree: &Rc<Node>, i: usize, steps: &mut Steps<L>) -> (u32, u32)
+    requires later { 0 < i }
+    requires within { i < length tree.now.value.items }
+    ensures first { result.0 ≡ slice_index tree.now.value.items (i - 1) }
+    ensures second { result.1 ≡ slice_index tree.now.value.items i }
+    ensures steps { steps.new ≤ steps.old + tree.now.value.height }
+{
+    let Parts {
+        one: left,
+        value,
+        other: right,
+    } = tree.parts(Side::Left, steps);
+    let before = count(left);
+    match (left, right) {
+        (Some(left), _) if i < before => pair(left, i, steps),
+        (Some(left), _) if i == before => (get(left, i - 1, steps), value),
+        (_, Some(right)) if i == before + 1 => (value, get(right, 0, steps)),
+        (_, Some(right)) => pair(right, i - before - 1, steps),
+        _ => unreachable!(),
     }
 }
 
@@ -106,11 +129,30 @@ fn turn<L: Ledger>(
         other: inner,
     } = high.parts(side, steps);
     if height(outer) >= height(inner) {
-        let inner = Node::beside(alloc, side, inner, value, low, steps)?;
-        return Node::beside(alloc, side, outer, middle, Some(inner), steps);
+        return turn_outer(alloc, side, (outer, middle), inner, value, low, steps);
     }
     let Some(inner) = inner else { unreachable!() };
     turn_inner(alloc, side, (outer, middle), inner, value, low, steps)
+}
+
+// The inner part goes to the other tree, and the outer one beside both; the first tree is on this side.
+fn turn_outer<L: Ledger>(
+    alloc: Global,
+    side: Side,
+    outer: (Option<&Rc<Node>>, u32),
+    inner: Option<&Rc<Node>>,
+    value: u32,
+    low: Subtree,
+    steps: &mut Steps<L>,
+) -> Result<Rc<Node>, Memory>
+    requires inner { HaveRoomBetween 1 (lent_at inner) (tree_at low) }
+    requires outer { (new : Tree) → IsFork side (lent_at inner) value (tree_at low) new → HaveRoomBetween 1 (lent_at outer.0) new }
+    ensures turned { IfOk result (λ tree. (new : Tree) × IsFork side (lent_at inner.entry) value (tree_at low) new
+        × IsFork side (lent_at outer.entry.0) outer.entry.1 new tree.value) }
+    ensures steps { steps.new ≤ steps.old + 2 }
+{
+    let inner = Node::beside(alloc, side, inner, value, low, steps)?;
+    Node::beside(alloc, side, outer.0, outer.1, Some(inner), steps)
 }
 
 // The higher node between two trees, each with a value beside it, becomes the one above both; the first tree is on this side.
@@ -163,6 +205,37 @@ pub(crate) fn join<L: Ledger>(
     }
 }
 
+// The same where the first tree is at an end of a list. If that is long, of three trees of one height the one between goes to the other
+// side, so that the way to this end stays short.
+fn join_at_end<L: Ledger>(
+    alloc: Global,
+    side: Side,
+    one: Rc<Node>,
+    value: u32,
+    other: Subtree,
+    long: bool,
+    steps: &mut Steps<L>,
+) -> Result<Rc<Node>, Memory>
+    requires short { length one.value.items + length (tree_at other).items + 1 < 2 ^ 31 }
+    ensures joined { IfOk result (λ tree. IsJoinedTree side one.value value (tree_at other) tree.value) }
+    ensures steps { steps.new ≤ steps.old + 6 * (one.value.height - (tree_at other).height)
+        + 6 * ((tree_at other).height - one.value.height) + 1 }
+{
+    let low = height(other.as_ref());
+    if !long || low == 0 || height(Some(&one)) != low + 1 {
+        return join(alloc, side, Some(one), value, other, steps);
+    }
+    let Parts {
+        one: outer,
+        value: middle,
+        other: inner,
+    } = one.parts(side, steps);
+    if height(outer) == height(inner) {
+        return turn_outer(alloc, side, (outer, middle), inner, value, other, steps);
+    }
+    Node::fork(alloc, side, Some(one), value, other, steps)
+}
+
 // The lower tree goes to where the higher one, on this side, is as low.
 fn hang<L: Ledger>(
     alloc: Global,
@@ -191,13 +264,15 @@ fn hang<L: Ledger>(
 }
 
 // The first i values and then this one, where the left side is kept, or else this one and then the rest. What is not kept is not
-// made. The steps of the joins along the way down are paid by the height of the piece, which grows with each join.
+// made. In a long list a leaf at the end stays as it is, below the new value: it would be made anew at each call, but a short list is
+// mostly cut there next. The steps of the joins along the way down are paid by the height of the piece, which grows with each join.
 pub(crate) fn piece<L: Ledger>(
     alloc: Global,
     kept: Side,
     tree: Option<&Rc<Node>>,
     i: usize,
     value: u32,
+    long: bool,
     steps: &mut Steps<L>,
 ) -> Result<Rc<Node>, Memory>
     requires inside { i ≤ length (lent_at tree).items }
@@ -216,12 +291,15 @@ pub(crate) fn piece<L: Ledger>(
         other,
         at,
     } = tree.way(i, steps);
-    let inner = piece(alloc, kept, part, at, value, steps)?;
     if kept.is(side) {
-        return Ok(inner);
+        return piece(alloc, kept, part, at, value, long, steps);
     }
+    if long && part.is_none() && other.is_none() {
+        return Node::beside(alloc, kept, Some(tree), value, None, steps);
+    }
+    let inner = piece(alloc, kept, part, at, value, long, steps)?;
     let other = shared(other)?;
-    join(alloc, side, Some(inner), here, other, steps)
+    join_at_end(alloc, side, inner, here, other, long, steps)
 }
 
 // The same values but for the one at i.

@@ -9,13 +9,15 @@ returns-then-is-clause-piece g t c =
     let it = c.way-side.result in
     let same : it.side ≡ c.args.kept = search rules in
     let way : IsWay (lent_at c.args.tree) c.args.i it.side (lent_at it.part) it.value (lent_at it.other) it.at = search rules in
-    kept_alone _ _ _ c.in_ok-inner.inner.value it.value c.args.i it.at c.args.value c.args.kept (rw same at way) c.in_ok-inner.ensures.piece
+    IfOk-weaker c.piece.result _ _
+    (λ new is. kept_alone _ _ _ new.value it.value c.args.i it.at c.args.value c.args.kept (rw same at way) is)
+    c.piece.ensures.piece
 
 pub returns-clause-piece : goal.returns-clause-piece
 returns-clause-piece g t c =
     let it = c.way-side.result in
     let apart : c.args.kept ≢ it.side = search rules in
     let way : IsWay (lent_at c.args.tree) c.args.i it.side (lent_at it.part) it.value (lent_at it.other) it.at = search rules in
-    IfOk-weaker c.join.result _ _
+    IfOk-weaker c.join_at_end.result _ _
     (λ new joined. kept_joined _ _ _ _ it.value c.args.i it.at c.args.value c.args.kept it.side new.value apart way c.in_ok-inner.ensures.piece (rw c.in_ok-other.ensures at joined))
-    c.join.ensures.joined
+    c.join_at_end.ensures.joined
