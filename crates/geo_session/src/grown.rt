@@ -61,9 +61,9 @@ impl Grown {
         })
     }
 
-    // Drops it along the triangles of the mesh.
-    pub(crate) fn drop_along(self, alloc: Global, mesh: &Mesh) {
-        self.tree.drop_along(alloc, mesh);
+    // Drops it.
+    pub(crate) fn give_back(self, alloc: Global) {
+        self.tree.give_back(alloc);
     }
 
     // What comes before each vertex on its path from the source, by the list that the ring was made of.

@@ -74,7 +74,7 @@ impl Held {
         ensures { self.new ≡ record { ring = self.old.ring; tris = self.old.tris; source = Some grown.source; prepared = self.old.prepared } }
     {
         if let Some(before) = self.grown.replace(grown) {
-            before.drop_along(alloc, &self.mesh);
+            before.give_back(alloc);
         }
     }
 

@@ -131,14 +131,11 @@ impl PathTree {
         turn_round(out, given);
     }
 
-    /// Drops the tree, funnel by funnel along an order of the mesh's triangles outward. Along another one its funnels were made, and most
-    /// triangles follow each other in both; so nodes that were made one after another are given back so, and are joined while they are near.
-    pub fn drop_along(self, alloc: Global, mesh: &Mesh) {
-        let PathTree { mut funnels, .. } = self;
-        for (k, at) in mesh.rooted().order.iter().enumerate() {
-            if let Some(funnel) = funnels.get_mut(at.tri as usize) {
-                *funnel = None;
-            }
+    /// Drops the tree, as going out of scope does. Nodes that are given back are joined while they are near.
+    pub fn give_back(self, alloc: Global) {
+        let PathTree { funnels, .. } = self;
+        for (k, funnel) in funnels.into_iter().enumerate() {
+            drop(funnel);
             if k % NEAR == 0 {
                 join_freed(alloc);
             }
