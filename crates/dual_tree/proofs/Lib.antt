@@ -1,4 +1,3 @@
-pub mod Choices
 pub mod CornerHits
 pub mod FullLists
 mod KnownLists

@@ -9,7 +9,7 @@ use Rattle.meshes.specs.Fits.{Fits, IsInTri}
 use Rattle.meshes.specs.Side.{tri_at}
 use Rattle.meshes.specs.declared.tri.Tri.{Tri}
 use Rattle.funnels.proofs.Chains.{source_in}
-use Rattle.dual_tree.specs.Location.{IsCornered, IsLeastHolding, IsLeastOrNone}
+use Rattle.dual_tree.specs.Location.{IsCornered}
 
 module _ (corners : List Point) (tris : List Tri) (fits : Fits corners tris) where
   -- the corners of a triangle are vertices, counterclockwise
@@ -34,29 +34,5 @@ module _ (corners : List Point) (tris : List Tri) (fits : Fits corners tris) whe
       let at = (covered (whole p) (omega (arith, ints))).0 inside in
       none at.0 (omega (arith, at.1)) at.2
 
-  -- so the least triangle that holds it is the answer for the point,
-  pub located_some : (p : Point) (k : ℕ) → IsLeastHolding corners tris (whole p) k → IsLeastOrNone corners tris (whole p) (Some k)
-  located_some p k h = record { least = h; none = (λ e. absurd cc, λ out. absurd (out (source_in corners tris fits k h.in_list p h.holds))) }
-
-  -- and none is where no triangle holds it
-  pub located_none : (p : Point) (n : ℕ) → length tris ≤ n → ((k : ℕ) → k < n → ¬ IsInTri corners (tri_at tris k) (whole p))
-      → IsLeastOrNone corners tris (whole p) None
-  located_none p n all none = record { least = tt; none = (λ _. not_in_ring_unless_held p n all none, λ _. refl) }
-
 -- all as rules
 pub ruleset places = (cornered, source_in, two_fewer)
-
--- what is in a triangle is in it with the corners in turn: from the second one on,
-pub in_from_second : (a b c : Point) (p : Triple) → IsInTriangle a b c p → IsInTriangle b c a p
-in_from_second a b c p i = record {
-  not_right_of_first = i.not_right_of_second;
-  not_right_of_second = i.not_right_of_third;
-  not_right_of_third = i.not_right_of_first;
-}
-
--- and from the third one on
-pub in_from_third : (a b c : Point) (p : Triple) → IsInTriangle a b c p → IsInTriangle c a b p
-in_from_third a b c p i = in_from_second b c a p (in_from_second a b c p i)
-
--- as rules
-pub ruleset turned_triangles = (in_from_second, in_from_third)

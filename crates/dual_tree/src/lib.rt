@@ -4,14 +4,13 @@
 mod board;
 mod laws;
 mod location;
-mod runs;
+mod search;
 mod sleeves;
 mod touching;
 mod walk;
 
 pub use board::Board;
 pub use laws::{full_without_straight, no_point_twice};
-pub use location::{locate, locate_both};
-pub use runs::boxes_of;
+pub use location::locate;
 pub use sleeves::sleeve;
 pub use touching::touched;

@@ -1,202 +1,66 @@
-ghost use Rattle.std.specs.Prelude.{◌≡◌, min, ◌⊎◌, ◌+◌, ◌-◌, ◌*◌, ◌/◌, ◌<◌, ◌≤◌, ◌^◌, ◌↔◌, ℕ, IfSome, IsNone, IsSome, IsTrue, false, length};
+// The triangle that holds a point: the first of all, in one pass over them. A hierarchy over the triangles mostly ends the pass early.
+ghost use Rattle.std.specs.Prelude.{◌≡◌, min, ◌+◌, ◌-◌, ◌*◌, ◌<◌, ◌≤◌, ◌^◌, ◌↔◌, ℕ, IfSome, IsNone, IsTrue, length};
 ghost use Rattle.plane.specs.Point.{whole};
 ghost use Rattle.plane.specs.Segment.{On};
-ghost use Rattle.plane.specs.Triangle.{IsInTriangle};
-ghost use Rattle.plane.specs.Turn.{IsLeft, IsRight};
+ghost use Rattle.plane.specs.Turn.{IsLeft};
 ghost use Rattle.rings.specs.Inside.{IsIn};
 ghost use Rattle.rings.specs.Ring.{vertex};
 ghost use Rattle.meshes.specs.Fits.{Fits, IsInTri, IsStrictlyInTri};
 ghost use Rattle.meshes.specs.Mesh.{side_begin, side_end};
 ghost use Rattle.meshes.specs.Side.{tri_at, HasCorner};
-ghost use Rattle.dual_tree.specs.Runs.{taken_before, takes_run};
-ghost use Rattle.dual_tree.specs.Location.{IsCornered, IsFirstHolding, IsLeastHolding, IsLeastOrNone};
+ghost use Rattle.dual_tree.specs.Location.{IsCornered, IsLeastHolding};
 
-use crate::runs::{Choice, RUN, runs_of};
-use exact_plane::{BoundingBox, Direction, Pt, Steps, each_in_triangle, in_triangle, order, turn};
+use crate::search::Search;
+use exact_plane::{Direction, Pt, Steps, is_apart, is_right_of_none, order, turn};
 use meshes::Tri;
 use ring_check::Ring;
 use std::cmp::Ordering;
 use std::sync::ledger::Ledger;
 use tri_mesh::{Mesh, triangle_at};
 
-// So many steps pay for the coordinates of a point, and for 3 at each of four triangles.
-const ENOUGH: u32 = 64 + 12;
-
-/// The least triangle that holds `p`, its sides included, or none where `p` is not in the ring. It takes at most 3 steps a
-/// triangle.
+/// Returns the least triangle that holds `p`, its sides included, or none where `p` is not in the ring. It takes O(n) steps, at most 3
+/// for each of the n - 2 triangles.
+#[tactic(auto, using(crate::proofs::LocationFits::places))]
 pub fn locate<L: Ledger>(mesh: &Mesh, ring: &Ring, p: &Pt, steps: &mut Steps<L>) -> Option<u32>
     requires { Fits ring.now.corners mesh.now }
     ensures least { IfSome result (IsLeastHolding ring.now.corners mesh.now (whole p.now)) }
     ensures none { IsNone result ↔ ¬ (IsIn ring.now.corners (whole p.now)) }
     ensures steps { steps.new ≤ steps.old + 3 * (length ring.now.corners - 2) }
 {
-    let found = first_held(mesh, ring, p, steps);
-    answer(mesh, ring, p, found)
-}
-
-/// The least triangle that holds `s`, or none where `s` is not in the ring, and the same of `t`. It takes at most 6 steps a
-/// triangle.
-#[tactic(auto, using(crate::proofs::LocationFits::places))]
-pub fn locate_both<L: Ledger>(
-    mesh: &Mesh,
-    ring: &Ring,
-    s: &Pt,
-    t: &Pt,
-    steps: &mut Steps<L>,
-) -> (Option<u32>, Option<u32>)
-    requires { Fits ring.now.corners mesh.now }
-    ensures least_of_first { IfSome result.0 (IsLeastHolding ring.now.corners mesh.now (whole s.now)) }
-    ensures no_first { IsNone result.0 ↔ ¬ (IsIn ring.now.corners (whole s.now)) }
-    ensures least_of_second { IfSome result.1 (IsLeastHolding ring.now.corners mesh.now (whole t.now)) }
-    ensures no_second { IsNone result.1 ↔ ¬ (IsIn ring.now.corners (whole t.now)) }
-    ensures steps { steps.new ≤ steps.old + 6 * (length ring.now.corners - 2) }
-{
-    let boxes = mesh.boxes();
-    if boxes.is_empty() {
-        return locate_together(mesh, ring, s, t, steps);
-    }
-    let (from, left) = first_by(mesh, ring, s, boxes, 0, steps);
-    let (to, _) = first_by(mesh, ring, t, boxes, left, steps);
-    (answer(mesh, ring, s, from), answer(mesh, ring, t, to))
-}
-
-// The first triangle that holds the point as the answer for it.
-fn answer(mesh: &Mesh, ring: &Ring, p: &Pt, found: u32) -> Option<u32>
-    requires fits { Fits ring.now.corners mesh.now }
-    requires first { IsFirstHolding ring.now.corners mesh.now (whole p.now) 0 (length mesh.now) found }
-    ensures { IsLeastOrNone ring.now.corners mesh.now (whole p.now) result }
-{
-    if found < mesh.count() {
-        Some(found)
-    } else {
-        None
-    }
-}
-
-// The same in one pass over the triangles.
-fn locate_together<L: Ledger>(
-    mesh: &Mesh,
-    ring: &Ring,
-    s: &Pt,
-    t: &Pt,
-    steps: &mut Steps<L>,
-) -> (Option<u32>, Option<u32>)
-    requires { Fits ring.now.corners mesh.now }
-    ensures first { IsLeastOrNone ring.now.corners mesh.now (whole s.now) result.0 }
-    ensures second { IsLeastOrNone ring.now.corners mesh.now (whole t.now) result.1 }
-    ensures steps { steps.new ≤ steps.old + 6 * (length ring.now.corners - 2) }
-{
+    let mut search = Search::new();
     for i in 0..mesh.count() {
-        let tri = mesh.tri(i);
-        if let Some((holds_s, holds_t)) = holds_each(ring, &tri, s, t, steps) {
-            let from = locate_at(mesh, ring, i, holds_s, s, steps);
-            let to = locate_at(mesh, ring, i, holds_t, t, steps);
-            return (from, to);
+        if holds(ring, &mesh.tri(i), p, &mut search.spared, steps) {
+            return Some(i);
+        }
+        if let Some(k) = search.go_on(mesh, ring, p, steps) {
+            return Some(least_beside(mesh, ring, k, p, steps));
         }
     }
-    (None, None)
+    None
 }
 
-// The least triangle that holds the point, where none before triangle `i` does and it is known whether that one does. It
-// takes at most 3 steps for each triangle after that one.
-#[tactic(auto, using(crate::proofs::LocationFits::places))]
-fn locate_at<L: Ledger>(
-    mesh: &Mesh,
+// Returns whether the point is in the closed triangle, and adds to the steps that are spared what it takes less than three.
+pub(crate) fn holds<L: Ledger>(
     ring: &Ring,
-    i: u32,
-    is_held: bool,
+    tri: &Tri,
     p: &Pt,
+    spared: &mut u32,
     steps: &mut Steps<L>,
-) -> Option<u32>
-    requires fits { Fits ring.now.corners mesh.now }
-    requires within { i < length mesh.now }
-    requires held { IsTrue is_held ↔ IsInTri ring.now.corners (tri_at mesh.now i) (whole p.now) }
-    requires before { (k : ℕ) → k < i → ¬ IsInTri ring.now.corners (tri_at mesh.now k) (whole p.now) }
-    ensures located { IsLeastOrNone ring.now.corners mesh.now (whole p.now) result }
-    ensures steps { steps.new ≤ steps.old + 3 * (length mesh.now - (i + 1)) }
+) -> bool
+    requires cornered { IsCornered ring.now.corners tri.now }
+    requires room { spared.old + 2 < 2 ^ 32 }
+    ensures holds { IsTrue result ↔ IsInTri ring.now.corners tri.now (whole p.now) }
+    ensures more { spared.old ≤ spared.new }
+    ensures few { spared.new ≤ spared.old + 2 }
+    ensures paid { steps.new + spared.new ≤ steps.old + spared.old + 3 }
 {
-    // The prover learns from this call how many triangles there can be.
-    let count = mesh.count();
-    if is_held {
-        return Some(i);
-    }
-    let found = first_from(mesh, ring, p, i + 1, count, steps);
-    if found < count { Some(found) } else { None }
-}
-
-// The least triangle that holds the point, or the number behind the last one where none does.
-#[tactic(auto, using(crate::proofs::LocationFits::places))]
-fn first_held<L: Ledger>(mesh: &Mesh, ring: &Ring, p: &Pt, steps: &mut Steps<L>) -> u32
-    requires { Fits ring.now.corners mesh.now }
-    ensures first { IsFirstHolding ring.now.corners mesh.now (whole p.now) 0 (length mesh.now) result }
-    ensures steps { steps.new ≤ steps.old + 3 * length mesh.now }
-{
-    let boxes = mesh.boxes();
-    if boxes.is_empty() {
-        first_from(mesh, ring, p, 0, mesh.count(), steps)
+    let (a, b, c) = corners_of(ring, tri);
+    if is_apart(a, b, c, p, steps) {
+        *spared += 2;
+        false
     } else {
-        first_by(mesh, ring, p, boxes, 0, steps).0
+        is_right_of_none(a, b, c, p, steps)
     }
-}
-
-// The same by boxes of runs that may hold them or not, and how many steps are left over of 3 for each triangle and of those that were left
-// before. Triangles are looked at one by one until the steps that are left pay for the coordinates of the point.
-#[tactic(auto, using(crate::proofs::LocationFits::places))]
-fn first_by<L: Ledger>(
-    mesh: &Mesh,
-    ring: &Ring,
-    p: &Pt,
-    boxes: &[BoundingBox],
-    left: u32,
-    steps: &mut Steps<L>,
-) -> (u32, u32)
-    requires { Fits ring.now.corners mesh.now }
-    ensures first { IsFirstHolding ring.now.corners mesh.now (whole p.now) 0 (length mesh.now) result.0 }
-    ensures steps { steps.new + result.1 ≤ steps.old + 3 * length mesh.now + left }
-{
-    let (first, is_held) = early(mesh, ring, p, ENOUGH.saturating_sub(left), steps);
-    if is_held {
-        return (first, 3 * (mesh.count() - first - 1));
-    }
-    if first == mesh.count() {
-        return (first, 0);
-    }
-    let (found, left) = any_by(mesh, ring, p, boxes, first, steps);
-    if found == mesh.count() {
-        return (found, 0);
-    }
-    (least_beside(mesh, ring, found, p, steps), left)
-}
-
-// A triangle from number `first` on that holds the point, or the number behind the last one where none does: first of the runs
-// that the point is near, then of the others. The triangles behind it, if it is of the former, leave 3 steps over for each.
-#[tactic(auto, using(crate::proofs::LocationFits::places))]
-fn any_by<L: Ledger>(
-    mesh: &Mesh,
-    ring: &Ring,
-    p: &Pt,
-    boxes: &[BoundingBox],
-    first: u32,
-    steps: &mut Steps<L>,
-) -> (u32, u32)
-    requires fits { Fits ring.now.corners mesh.now }
-    requires within { first ≤ length mesh.now }
-    ensures within { result.0 ≤ length mesh.now }
-    ensures holds { result.0 < length mesh.now → IsInTri ring.now.corners (tri_at mesh.now result.0) (whole p.now) }
-    ensures none { length mesh.now ≤ result.0 → (k : ℕ) → first ≤ k → k < length mesh.now
-        → ¬ IsInTri ring.now.corners (tri_at mesh.now k) (whole p.now) }
-    ensures steps { steps.new + result.1 ≤ steps.old + 64 + 3 * (length mesh.now - first) + 6 }
-{
-    let count = mesh.count();
-    let near = Choice::near(boxes, mesh.count(), p, steps);
-    let found = first_chosen(mesh, ring, p, &near, (first, count), steps);
-    if found < count {
-        return (found, 3 * (count - found));
-    }
-    (
-        first_chosen(mesh, ring, p, &near.others(), (first, count), steps),
-        0,
-    )
 }
 
 // The least triangle that holds the point, by one that does. Where the point is a corner of this one, it is the least with the
@@ -253,192 +117,6 @@ fn corner_at<L: Ledger>(
     } else {
         None
     }
-}
-
-// The first triangles, until enough steps are left over of 3 for each: the first that holds the point, and that it does; or the
-// first that was not looked at.
-#[tactic(auto, using(crate::proofs::LocationFits::places))]
-fn early<L: Ledger>(
-    mesh: &Mesh,
-    ring: &Ring,
-    p: &Pt,
-    enough: u32,
-    steps: &mut Steps<L>,
-) -> (u32, bool)
-    requires fits { Fits ring.now.corners mesh.now }
-    requires enough { enough < 2 ^ 30 }
-    ensures within { result.0 ≤ length mesh.now }
-    ensures held { IsTrue result.1 → result.0 < length mesh.now × IsInTri ring.now.corners (tri_at mesh.now result.0) (whole p.now) }
-    ensures none { (k : ℕ) → k < result.0 → ¬ IsInTri ring.now.corners (tri_at mesh.now k) (whole p.now) }
-    ensures steps { steps.new ≤ steps.old + 3 * (result.0 + 1) }
-    ensures spared { result.1 ≡ false → (steps.new + enough ≤ steps.old + 3 * result.0)
-        ⊎ ((result.0 ≡ length mesh.now) × (steps.new ≤ steps.old + 3 * result.0)) }
-{
-    let mut spared = 0;
-    // The side to be asked first of each fourth triangle: the one that the point was right of at the last of these. In strips and
-    // fans that is mostly so at the next one too.
-    let mut sides = [1; 4];
-    let mut i = 0;
-    while i < mesh.count() && spared < enough {
-        let place = (i % 4) as usize;
-        let first = sides[place] % 3;
-        match spared_by(ring, &mesh.tri(i), first, p, steps) {
-            Some(left) => {
-                spared += left;
-                sides[place] = first + 2 - left;
-            }
-            None => return (i, true),
-        }
-        i += 1;
-    }
-    (i, false)
-}
-
-// How many of 3 steps are left over where the point is found not to be in the triangle, by its sides from number `first` on; none
-// where it is in it.
-#[tactic(auto, using(crate::proofs::LocationFits::turned_triangles))]
-fn spared_by<L: Ledger>(
-    ring: &Ring,
-    tri: &Tri,
-    first: u32,
-    p: &Pt,
-    steps: &mut Steps<L>,
-) -> Option<u32>
-    requires { IsCornered ring.now.corners tri.now }
-    ensures few { IfSome result (λ left. left ≤ 2) }
-    ensures out { IsSome result → ¬ IsInTri ring.now.corners tri.now (whole p.now) }
-    ensures held { IsNone result → IsInTri ring.now.corners tri.now (whole p.now) }
-    ensures left { IfSome result (λ left. steps.new + left ≤ steps.old + 3) }
-    ensures steps { steps.new ≤ steps.old + 3 }
-{
-    let (a, b, c) = corners_of(ring, tri);
-    match first {
-        0 => spared_at(a, b, c, p, steps),
-        1 => spared_at(b, c, a, p, steps),
-        _ => spared_at(c, a, b, p, steps),
-    }
-}
-
-// The same by the corners of the triangle.
-fn spared_at<L: Ledger>(a: &Pt, b: &Pt, c: &Pt, p: &Pt, steps: &mut Steps<L>) -> Option<u32>
-    ensures few { IfSome result (λ left. left ≤ 2) }
-    ensures out { IsSome result → ¬ IsInTriangle a.now b.now c.now (whole p.now) }
-    ensures held { IsNone result → IsInTriangle a.now b.now c.now (whole p.now) }
-    ensures left { IfSome result (λ left. steps.new + left ≤ steps.old + 3) }
-    ensures steps { steps.new ≤ steps.old + 3 }
-{
-    if is_right(a, b, p, steps) {
-        Some(2)
-    } else if is_right(b, c, p, steps) {
-        Some(1)
-    } else if is_right(c, a, p, steps) {
-        Some(0)
-    } else {
-        None
-    }
-}
-
-// Whether the point is right of the line from `a` to `b`. It takes one step.
-fn is_right<L: Ledger>(a: &Pt, b: &Pt, p: &Pt, steps: &mut Steps<L>) -> bool
-    ensures right { IsTrue result ↔ IsRight (whole a.now) (whole b.now) (whole p.now) }
-    ensures steps { steps.new ≡ steps.old + 1 }
-{
-    match turn(a, b, p, steps) {
-        Direction::Right => true,
-        _ => false,
-    }
-}
-
-// The first triangle of the chosen runs, from number `range.0` to before `range.1`, that holds the point; `range.1` where none does.
-#[tactic(auto, using(crate::proofs::LocationFits::places))]
-fn first_chosen<L: Ledger>(
-    mesh: &Mesh,
-    ring: &Ring,
-    p: &Pt,
-    choice: &Choice,
-    range: (u32, u32),
-    steps: &mut Steps<L>,
-) -> u32
-    requires fits { Fits ring.now.corners mesh.now }
-    requires order { range.0 ≤ range.1 }
-    requires within { range.1 ≤ length mesh.now }
-    ensures after { range.0 ≤ result }
-    ensures within { result ≤ range.1 }
-    ensures holds { result < range.1 → IsInTri ring.now.corners (tri_at mesh.now result) (whole p.now) }
-    ensures none { (k : ℕ) → range.0 ≤ k → k < result → IsTrue (takes_run choice.now (k / 4))
-        → ¬ IsInTri ring.now.corners (tri_at mesh.now k) (whole p.now) }
-    ensures steps { steps.new + 3 * taken_before (takes_run choice.now) range.0
-        ≤ steps.old + 3 * taken_before (takes_run choice.now) result + 3 }
-{
-    // The prover learns from this call how many triangles there can be.
-    let _count = mesh.count();
-    let end = runs_of(range.1);
-    let mut run = choice.next(range.0 / RUN, end);
-    while run < end {
-        let from = range.0.max(RUN * run);
-        let to = range.1.min(RUN * run + RUN);
-        let found = first_from(mesh, ring, p, from, to, steps);
-        if found < to {
-            return found;
-        }
-        run = choice.next(run + 1, end);
-    }
-    range.1
-}
-
-// The first triangle from number `first` to before `end` that holds the point; `end` where none does.
-#[tactic(auto, using(crate::proofs::LocationFits::places))]
-fn first_from<L: Ledger>(
-    mesh: &Mesh,
-    ring: &Ring,
-    p: &Pt,
-    first: u32,
-    end: u32,
-    steps: &mut Steps<L>,
-) -> u32
-    requires fits { Fits ring.now.corners mesh.now }
-    requires order { first ≤ end }
-    requires within { end ≤ length mesh.now }
-    ensures first { IsFirstHolding ring.now.corners mesh.now (whole p.now) first end result }
-    ensures steps { steps.new ≤ steps.old + 3 * (end - first) }
-    ensures steps_so_far { steps.new ≤ steps.old + 3 * (result + 1 - first) }
-{
-    for i in first..end {
-        let tri = mesh.tri(i);
-        if holds(ring, &tri, p, steps) {
-            return i;
-        }
-    }
-    end
-}
-
-// Whether the point is in the closed triangle. It takes at most 3 steps.
-fn holds<L: Ledger>(ring: &Ring, tri: &Tri, p: &Pt, steps: &mut Steps<L>) -> bool
-    requires { IsCornered ring.now.corners tri.now }
-    ensures holds { IsTrue result ↔ IsInTri ring.now.corners tri.now (whole p.now) }
-    ensures steps { steps.new ≤ steps.old + 3 }
-{
-    let (a, b, c) = corners_of(ring, tri);
-    in_triangle(a, b, c, p, steps)
-}
-
-// Whether either of two points is in the closed triangle; none where neither is. It takes at most 6 steps.
-fn holds_each<L: Ledger>(
-    ring: &Ring,
-    tri: &Tri,
-    s: &Pt,
-    t: &Pt,
-    steps: &mut Steps<L>,
-) -> Option<(bool, bool)>
-    requires { IsCornered ring.now.corners tri.now }
-    ensures first { IfSome result (λ held. IsTrue held.0 ↔ IsInTri ring.now.corners tri.now (whole s.now)) }
-    ensures second { IfSome result (λ held. IsTrue held.1 ↔ IsInTri ring.now.corners tri.now (whole t.now)) }
-    ensures no_first { IsNone result → ¬ IsInTri ring.now.corners tri.now (whole s.now) }
-    ensures no_second { IsNone result → ¬ IsInTri ring.now.corners tri.now (whole t.now) }
-    ensures steps { steps.new ≤ steps.old + 6 }
-{
-    let (a, b, c) = corners_of(ring, tri);
-    each_in_triangle(a, b, c, s, t, steps)
 }
 
 // The side of a triangle on which the point is, which the triangle holds; none where it is left of all sides. It takes at most

@@ -1,5 +1,6 @@
 pub mod Boxes
 pub mod Direction
+pub mod Extent
 pub mod Names
 pub mod Outside
 pub mod Size

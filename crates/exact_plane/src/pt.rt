@@ -1,4 +1,5 @@
 ghost use Rattle.std.specs.Int.{int_max, int_min};
+ghost use Rattle.std.specs.Ordering.{int_cmp};
 ghost use Rattle.std.specs.Prelude.{◌≡◌, ◌+◌, ◌<◌, ◌^◌, ◌-ℤ◌, ◌<ℤ◌, ◌≤ℤ◌, ◌↔◌, IsSome, IsTrue, IfSome, unsigned_abs};
 ghost use Rattle.plane.specs.Box.{BoxesMeet, IntervalsMeet};
 ghost use Rattle.plane.specs.Order.{IsBefore};
@@ -114,12 +115,25 @@ impl Pt {
         self.is_left_or_right(a, b, c) || self.is_below_or_above(a, b, c)
     }
 
-    // Whether three points are left of this one and of another. That tells nothing where they are not.
-    pub(crate) fn is_right_with(&self, other: &Pt, a: &Pt, b: &Pt, c: &Pt) -> bool
-        ensures first { IsTrue result → IsOutside self.now.x a.now.x b.now.x c.now.x }
-        ensures second { IsTrue result → IsOutside other.now.x a.now.x b.now.x c.now.x }
+    // Whether it is neither left of `west` nor right of `east`.
+    pub(crate) fn is_between_sides(&self, west: &Pt, east: &Pt) -> bool
+        ensures { IsTrue result ↔ (west.now.x ≤ℤ self.now.x × self.now.x ≤ℤ east.now.x) }
     {
-        are_left(a, b, c, self.x.min(other.x))
+        west.x <= self.x && self.x <= east.x
+    }
+
+    // Whether it is neither below `south` nor above `north`.
+    pub(crate) fn is_between_levels(&self, south: &Pt, north: &Pt) -> bool
+        ensures { IsTrue result ↔ (south.now.y ≤ℤ self.now.y × self.now.y ≤ℤ north.now.y) }
+    {
+        south.y <= self.y && self.y <= north.y
+    }
+
+    // Compares y.
+    pub(crate) fn compare_levels(&self, other: &Pt) -> Ordering
+        ensures { result ≡ int_cmp self.now.y other.now.y }
+    {
+        self.y.cmp(&other.y)
     }
 
     // Whether it is left of all three, or right of them.
@@ -143,13 +157,6 @@ impl Pt {
             self.y < a.y && self.y < b.y && self.y < c.y
         }
     }
-}
-
-// Whether three points are left of an abscissa.
-fn are_left(a: &Pt, b: &Pt, c: &Pt, x: i32) -> bool
-    ensures { IsTrue result ↔ (a.now.x <ℤ x × b.now.x <ℤ x × c.now.x <ℤ x) }
-{
-    a.x < x && b.x < x && c.x < x
 }
 
 // Whether the interval between two numbers shares a number with that between two others. The ends of the second are not

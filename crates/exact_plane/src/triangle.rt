@@ -1,4 +1,4 @@
-ghost use Rattle.std.specs.Prelude.{◌+◌, ◌≤◌, ◌↔◌, IfSome, IsNone, IsTrue};
+ghost use Rattle.std.specs.Prelude.{◌≡◌, ◌+◌, ◌≤◌, ◌↔◌, IsTrue};
 ghost use Rattle.plane.specs.Point.{whole};
 ghost use Rattle.plane.specs.Triangle.{IsInTriangle};
 ghost use Rattle.plane.specs.Turn.{IsLeft, IsRight};
@@ -7,60 +7,38 @@ use crate::pt::Pt;
 use crate::steps::Steps;
 use std::sync::ledger::Ledger;
 
-/// Whether `p` is in the closed triangle with these corners, which run counterclockwise. It takes 1 to 3 steps: one,
-/// by comparisons alone, where `p` is outside the box round the corners.
+/// Returns whether `p` is in the closed triangle `abc`, whose corners run counterclockwise. It takes 1 to 3 steps: one, by
+/// comparisons alone, where `p` is outside the bounding box of the corners.
 pub fn in_triangle<L: Ledger>(a: &Pt, b: &Pt, c: &Pt, p: &Pt, steps: &mut Steps<L>) -> bool
     requires counterclockwise { IsLeft (whole a.now) (whole b.now) (whole c.now) }
     ensures triangle { IsTrue result ↔ IsInTriangle a.now b.now c.now (whole p.now) }
     ensures steps_least { steps.old + 1 ≤ steps.new }
     ensures steps_most { steps.new ≤ steps.old + 3 }
 {
-    steps.tick();
-    if p.is_outside_box(a, b, c) {
-        return false;
-    }
-    steps.add(2);
-    is_right_of_none(*a, *b, *c, *p)
+    !is_apart(a, b, c, p, steps) && is_right_of_none(a, b, c, p, steps)
 }
 
-/// Whether `s` is in the closed triangle with these corners, which run counterclockwise, and whether `t` is; none where
-/// neither is. It takes 2 to 6 steps: two, by three comparisons, where both are right of the corners.
-pub fn each_in_triangle<L: Ledger>(
-    a: &Pt,
-    b: &Pt,
-    c: &Pt,
-    s: &Pt,
-    t: &Pt,
-    steps: &mut Steps<L>,
-) -> Option<(bool, bool)>
+/// Returns whether `p` is outside the bounding box of the triangle `abc`, whose corners run counterclockwise: then it is not in
+/// the triangle. It takes one step.
+pub fn is_apart<L: Ledger>(a: &Pt, b: &Pt, c: &Pt, p: &Pt, steps: &mut Steps<L>) -> bool
     requires counterclockwise { IsLeft (whole a.now) (whole b.now) (whole c.now) }
-    ensures first { IfSome result (λ held. IsTrue held.0 ↔ IsInTriangle a.now b.now c.now (whole s.now)) }
-    ensures second { IfSome result (λ held. IsTrue held.1 ↔ IsInTriangle a.now b.now c.now (whole t.now)) }
-    ensures no_first { IsNone result → ¬ IsInTriangle a.now b.now c.now (whole s.now) }
-    ensures no_second { IsNone result → ¬ IsInTriangle a.now b.now c.now (whole t.now) }
-    ensures steps_least { steps.old + 2 ≤ steps.new }
-    ensures steps_most { steps.new ≤ steps.old + 6 }
+    ensures apart { IsTrue result → ¬ IsInTriangle a.now b.now c.now (whole p.now) }
+    ensures steps { steps.new ≡ steps.old + 1 }
 {
-    if s.is_right_with(t, a, b, c) {
-        steps.add(2);
-        return None;
-    }
-    let holds_s = in_triangle(a, b, c, s, steps);
-    let holds_t = in_triangle(a, b, c, t, steps);
-    if holds_s || holds_t {
-        Some((holds_s, holds_t))
-    } else {
-        None
-    }
+    steps.tick();
+    p.is_outside_box(a, b, c)
 }
 
-// Whether `p` is right of no side of the triangle with these corners. A search among triangles seldom comes here, so it
-// is kept out of its loop.
+/// Returns whether `p` is right of no side of the triangle `abc`: in the closed triangle, if the corners run counterclockwise. It
+/// takes two steps.
+// A search among triangles seldom comes here, so it is kept out of its loop.
 #[inline(never)]
-fn is_right_of_none(a: Pt, b: Pt, c: Pt, p: Pt) -> bool
-    ensures { IsTrue result ↔ IsInTriangle a b c (whole p) }
+pub fn is_right_of_none<L: Ledger>(a: &Pt, b: &Pt, c: &Pt, p: &Pt, steps: &mut Steps<L>) -> bool
+    ensures triangle { IsTrue result ↔ IsInTriangle a.now b.now c.now (whole p.now) }
+    ensures steps { steps.new ≡ steps.old + 2 }
 {
-    !is_right(&a, &b, &p) && !is_right(&b, &c, &p) && !is_right(&c, &a, &p)
+    steps.add(2);
+    !is_right(a, b, p) && !is_right(b, c, p) && !is_right(c, a, p)
 }
 
 // Whether `p` is right of the line from `a` to `b`.

@@ -12,7 +12,7 @@ ghost use Rattle.geo_session.specs.Told.{Tells};
 
 use crate::grown::Grown;
 use crate::parts::given_parts;
-use dual_tree::{Board, boxes_of, locate};
+use dual_tree::{Board, locate};
 use exact_plane::{Memory, Pt, Steps};
 use flip_tri::cut_triangles;
 use geo_reply::{Reply, Row};
@@ -27,7 +27,7 @@ use std::alloc::Global;
 use std::marker::Model;
 use std::sync::ledger::Ledger;
 use sweep_tri::sweep_ring;
-use tri_mesh::Mesh;
+use tri_mesh::{Mesh, hierarchy_of};
 
 // A triangulated polygon: a ring, with a mesh that fits it, the tree of a source in it, if there is one, and the table of the
 // paths between all pairs of vertices, if there is one. What it answers is about the list that the ring was made of.
@@ -171,6 +171,6 @@ pub(crate) fn mesh_of<L: Ledger>(
 {
     let _ring_is_simple = ring.len();
     let tris = sweep_ring(alloc, ring, &Board::without_ends(ring), steps)?;
-    let boxes = boxes_of(alloc, ring, &tris, steps)?;
-    Mesh::with_boxes(alloc, tris, boxes)
+    let nodes = hierarchy_of(alloc, ring.corners(), &tris, steps)?;
+    Mesh::with_hierarchy(alloc, tris, nodes)
 }

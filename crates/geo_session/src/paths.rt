@@ -16,7 +16,7 @@ ghost use Rattle.geo_session.specs.Sleeves.{IsPathAlong, IsPathBetween, Leads};
 ghost use Rattle.geo_session.specs.Told.{reply_of};
 
 use crate::held::Held;
-use dual_tree::{Board, locate_both, sleeve, touched};
+use dual_tree::{Board, sleeve, touched};
 use exact_plane::{Memory, Pt, Spot, Steps, Turns};
 use funnel_walk::{FunnelBox, walk};
 use geo_reply::{Reply, Row};
@@ -40,10 +40,13 @@ impl Held {
         ensures steps { steps.new ≤ steps.old + by_version version 10 30 * length self.now.ring.corners }
         ensures memory { version ≡ Version.One → OnErr result (steps.new ≤ steps.old + 6 * (length self.now.ring.corners - 2)) }
     {
-        let (from, to) = match locate_both(&self.mesh, &self.ring, s, t, steps) {
-            (Some(from), Some(to)) => (from, to),
-            (None, _) => return Ok(Err(Bad::Outside(1))),
-            (Some(_), None) => return Ok(Err(Bad::Outside(2))),
+        let from = match self.find(1, s, steps) {
+            Ok(from) => from,
+            Err(bad) => return Ok(Err(bad)),
+        };
+        let to = match self.find(2, t, steps) {
+            Ok(to) => to,
+            Err(bad) => return Ok(Err(bad)),
         };
         let points = self.path_between(alloc, version, (from, to), s, t, steps)?;
         Ok(Ok(points))

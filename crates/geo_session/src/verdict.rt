@@ -11,7 +11,7 @@ ghost use Rattle.taut_check.specs.Verdict.{IsVerdict};
 ghost use Rattle.geo_session.specs.Paced.{check_steps};
 
 use crate::held::Held;
-use dual_tree::{locate_both, sleeve};
+use dual_tree::{locate, sleeve};
 use exact_plane::{Memory, Pt, Steps, order};
 use inside_test::holds_segment_within;
 use std::alloc::Global;
@@ -110,7 +110,10 @@ impl Held {
         ensures none { IfOk result (λ found. IfNone found (¬ (IsIn self.now.ring.corners (whole s.now) × IsIn self.now.ring.corners (whole t.now)))) }
         ensures steps { steps.new ≤ steps.old + 10 * length self.now.ring.corners }
     {
-        let (Some(from), Some(to)) = locate_both(&self.mesh, &self.ring, s, t, steps) else {
+        let Some(from) = locate(&self.mesh, &self.ring, s, steps) else {
+            return Ok(None);
+        };
+        let Some(to) = locate(&self.mesh, &self.ring, t, steps) else {
             return Ok(None);
         };
         let sleeve = sleeve(alloc, &self.mesh, from, to)?;

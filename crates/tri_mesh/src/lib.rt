@@ -2,6 +2,8 @@
 #![tactic(auto)]
 
 mod corner;
+mod extremes;
+mod hierarchy;
 mod mesh;
 mod outward;
 mod search;
@@ -9,6 +11,7 @@ mod sides;
 mod sleeve;
 
 pub use corner::triangle_at;
+pub use hierarchy::{Node, hierarchy_of};
 pub use mesh::Mesh;
 pub use outward::{Outward, Rooted};
 pub use sleeve::Sleeve;

@@ -8,24 +8,24 @@ ghost use Rattle.tri_mesh.specs.Neighbours.{HasCornersBelow};
 ghost use Rattle.tri_mesh.specs.Outward.{IsOutward, IsRooted};
 
 use crate::corner::firsts_of;
+use crate::hierarchy::Node;
 use crate::outward::{Outward, Rooted};
 use crate::search::Search;
 use crate::sides::neighbours;
-use exact_plane::{BoundingBox, Memory};
+use exact_plane::Memory;
 use meshes::Tri;
 use std::alloc::Global;
 use std::marker::Model;
 
 /// Triangles that fit some polygon, for each side the triangle on its other side, for each corner the first triangle that has it,
-/// and an order outward from triangle 0. It may keep boxes round runs of triangles, by which a search can choose where to look first. No
-/// clause says that these hold their triangles.
+/// and an order outward from triangle 0. It may keep a hierarchy, by which a search can choose where to look first.
 #[derive(Drop)]
 pub struct Mesh {
     tris: Vec<Tri>,
     neighbours: Vec<[Option<u32>; 3]>,
     firsts: Vec<u32>,
     root: Search,
-    boxes: Vec<BoundingBox>,
+    nodes: Vec<Node>,
 }
 
 impl Model for Mesh {
@@ -45,30 +45,26 @@ impl Model for Mesh {
 }
 
 impl Mesh {
-    /// The mesh of these triangles, without boxes. The list is dropped where memory is refused.
+    /// Returns the mesh of these triangles, without a hierarchy. After want of memory the list is dropped.
     pub fn build(alloc: Global, tris: Vec<Tri>) -> Result<Mesh, Memory>
         requires fits { IsMesh tris.items }
         requires few { vec_len tris < 2 ^ 30 }
         ensures { IfOk result (λ mesh. mesh ≡ tris.items) }
     {
-        Mesh::with_boxes(alloc, tris, Vec::new(alloc))
+        Mesh::with_hierarchy(alloc, tris, Vec::new(alloc))
     }
 
-    /// The mesh of these triangles, which keeps these boxes. Both lists are dropped where memory is refused.
-    pub fn with_boxes(
-        alloc: Global,
-        tris: Vec<Tri>,
-        boxes: Vec<BoundingBox>,
-    ) -> Result<Mesh, Memory>
+    /// Returns the mesh of these triangles, which keeps the nodes of a hierarchy over them. After want of memory both lists are dropped.
+    pub fn with_hierarchy(alloc: Global, tris: Vec<Tri>, nodes: Vec<Node>) -> Result<Mesh, Memory>
         requires fits { IsMesh tris.items }
         requires few { vec_len tris < 2 ^ 30 }
         ensures { IfOk result (λ mesh. mesh ≡ tris.items) }
     {
-        Mesh::of_tree(alloc, tris, boxes)
+        Mesh::of_tree(alloc, tris, nodes)
     }
 
     // The mesh of triangles that are a tree and have their sides once.
-    fn of_tree(alloc: Global, tris: Vec<Tri>, boxes: Vec<BoundingBox>) -> Result<Mesh, Memory>
+    fn of_tree(alloc: Global, tris: Vec<Tri>, nodes: Vec<Node>) -> Result<Mesh, Memory>
         requires some { 0 < vec_len tris }
         requires tree { IsTree tris.items }
         requires sides { HasSidesOnce tris.items }
@@ -84,7 +80,7 @@ impl Mesh {
             neighbours,
             firsts,
             root,
-            boxes,
+            nodes,
         })
     }
 
@@ -134,9 +130,9 @@ impl Mesh {
         self.firsts[i as usize]
     }
 
-    /// The boxes that it was made with.
-    pub fn boxes(&self) -> &[BoundingBox] {
-        &self.boxes
+    /// Returns the nodes of the hierarchy that it was made with.
+    pub fn nodes(&self) -> &[Node] {
+        &self.nodes
     }
 
     /// The triangles outward from `home`: each shares a side with one before it. All sides are looked at once.
