@@ -1,5 +1,5 @@
 // The vertices of a list in lexicographic order, and the rank of each.
-ghost use Rattle.std.specs.Prelude.{◌≡◌, ◌+◌, ◌*◌, ◌<◌, ◌≤◌, ◌^◌, IfOk, List, length, map};
+ghost use Rattle.std.specs.Prelude.{◌≡◌, ◌+◌, ◌*◌, ◌<◌, ◌≤◌, ◌^◌, IfOk, OnOk, List, length, map};
 ghost use Rattle.plane.specs.Point.{IsInBounds, IsInLimit, Point};
 ghost use Rattle.plane.specs.declared.limits.TheConstants.{MAX_CORNERS};
 ghost use Rattle.rings.specs.Events.{AreEvents};
@@ -23,7 +23,8 @@ pub fn lexical_order<L: Ledger>(
     requires { length points.now ≤ MAX_CORNERS }
     ensures all { IfOk result (λ order. length order.items ≡ length points.now) }
     ensures order { IfOk result (λ order. IsSimple points.now → IsInOrder points.now order.items) }
-    ensures steps { steps.new ≤ steps.old + 64 * length points.now }
+    ensures steps_least { OnOk result (steps.old + length points.now ≤ steps.new) }
+    ensures steps_most { steps.new ≤ steps.old + 64 * length points.now }
 {
     let mut keys = keys_of(alloc, points, steps)?;
     keys.sort_unstable();
@@ -38,7 +39,8 @@ fn keys_of<L: Ledger>(
 ) -> Result<Vec<u64>, Memory>
     requires { length points.now ≤ MAX_CORNERS }
     ensures keys { IfOk result (λ keys. AreKeys points.now (length points.now) keys.items) }
-    ensures steps { steps.new ≤ steps.old + 64 * length points.now }
+    ensures steps_least { OnOk result (steps.old + length points.now ≤ steps.new) }
+    ensures steps_most { steps.new ≤ steps.old + 64 * length points.now }
 {
     let mut keys = Vec::with_capacity(alloc, points.len())?;
     for number in 0..points.len() as u32 {
@@ -78,6 +80,24 @@ fn numbers_of(alloc: Global, keys: &[u64]) -> Result<Vec<u32>, Memory>
         numbers.push_reserved((*key % 65_536) as u32);
     }
     Ok(numbers)
+}
+
+// Returns an order of vertices again. Each vertex takes one step, since its place tells how it compares with the one before it.
+pub(crate) fn copied<L: Ledger>(
+    alloc: Global,
+    order: &[u32],
+    steps: &mut Steps<L>,
+) -> Result<Vec<u32>, Memory>
+    ensures same { IfOk result (λ copy. copy.items ≡ order.now) }
+    ensures steps_least { OnOk result (steps.new ≡ steps.old + length order.now) }
+    ensures steps_most { steps.new ≤ steps.old + length order.now }
+{
+    let mut copy = Vec::with_capacity(alloc, order.len())?;
+    for number in order {
+        steps.tick();
+        copy.push_reserved(*number);
+    }
+    Ok(copy)
 }
 
 /// The place of each vertex in the order.

@@ -1,4 +1,4 @@
-ghost use Rattle.std.specs.Prelude.{◌≡◌, ◌+◌, ◌*◌, ◌-◌, ◌<◌, ◌≤◌, ◌^◌, ◌↔◌, ℕ, IfOk, IfSome, IsOk, IsTrue, Err, false, length, vec_len};
+ghost use Rattle.std.specs.Prelude.{◌≡◌, ◌+◌, ◌*◌, ◌-◌, ◌<◌, ◌≤◌, ◌^◌, ◌↔◌, ℕ, IfOk, OnOk, IsOk, IsTrue, Err, false, length, vec_len};
 ghost use Rattle.plane.specs.Point.{whole};
 ghost use Rattle.plane.specs.declared.limits.TheConstants.{MAX_CORNERS};
 ghost use Rattle.rings.specs.Orientation.{IsCounterclockwise, IsReflex};
@@ -9,7 +9,7 @@ ghost use Rattle.ring_check.specs.Order.{IsInOrder};
 ghost use Rattle.ring_check.specs.Oriented.{given_edge, given_index, given_of, oriented};
 
 use crate::clash::find_clash;
-use crate::order::lexical_order;
+use crate::order::{copied, lexical_order};
 use crate::orientation::{turn_back, turn_counterclockwise};
 use crate::sweep::simple_order;
 use exact_plane::{Direction, Memory, Pt, Steps, turn};
@@ -113,27 +113,20 @@ impl Ring {
         }
     }
 
-    /// The vertices by their numbers in lexicographic order, where the ring keeps it: not where memory was refused or a sweep could
-    /// not show that the list is simple.
-    pub fn order(&self) -> Option<&[u32]>
-        ensures { IfSome result (λ order. IsInOrder self.now.corners order.now) }
-    {
-        self.order.as_deref()
-    }
-
-    /// All vertices by their numbers in lexicographic order: by x, then by y, as the ring keeps them or sorted. It takes at most
-    /// 64 steps for each vertex.
+    /// Returns all vertices by their indices in lexicographic order: by x, then by y, as the ring keeps them or sorted. It takes O(n)
+    /// steps, 1 to 64 for each vertex. After want of memory the ring is as before.
     pub fn lexical<L: Ledger>(
         &self,
         alloc: Global,
         steps: &mut Steps<L>,
     ) -> Result<Vec<u32>, Memory>
         ensures order { IfOk result (λ order. IsInOrder self.now.corners order.items) }
-        ensures steps { steps.new ≤ steps.old + 64 * length self.now.corners }
+        ensures steps_least { OnOk result (steps.old + length self.now.corners ≤ steps.new) }
+        ensures steps_most { steps.new ≤ steps.old + 64 * length self.now.corners }
     {
         let _is_simple = self.len();
-        match self.order() {
-            Some(order) => Ok(order.to_vec(alloc)?),
+        match &self.order {
+            Some(order) => copied(alloc, order, steps),
             None => lexical_order(alloc, self.corners(), steps),
         }
     }
