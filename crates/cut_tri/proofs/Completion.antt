@@ -3,7 +3,8 @@ use Rattle.std.proofs.Common.{ℕ, ◌+◌, ◌-◌, ◌*◌, List, [], ◌∷�
 use Rattle.plane.specs.Point.{Point}
 use Rattle.meshes.specs.Fits.{Fits, FitsPiece}
 use Rattle.meshes.specs.declared.tri.Tri.{Tri}
-use Rattle.cut_tri.specs.Cut.{IsCutTriangulation, IsCutInto}
+use Rattle.cut_tri.specs.Cut.{IsCutTriangulation}
+use Rattle.cut_tri.specs.Cutting.{IsCutInto}
 use Rattle.cut_tri.specs.Piece.{IsPiece}
 
 -- each of them is a piece

@@ -10,12 +10,13 @@ use Rattle.meshes.proofs.Joins.{both_parts, contains_first_part, contains_second
 use Rattle.meshes.proofs.Triangulations.{CutsPoints, SplitAt, both_fit, farthest_cut, first_is_piece, second_is_piece}
 use Rattle.meshes.specs.Fits.{piece_points}
 use Rattle.cut_tri.proofs.CornerPlaces.{height_is, in_corner_from, in_triangle_from, none_before, place_of_point}
+use Rattle.cut_tri.proofs.CutSets.{cut_with_parts}
+use Rattle.cut_tri.proofs.DistinctCorners.{simple_distinct}
 use Rattle.cut_tri.proofs.Members.{members_of_numbers, numbers_of_members}
 use Rattle.cut_tri.proofs.Readings.{read_from_first}
 use Rattle.cut_tri.proofs.Shapes.{by_split}
-use Rattle.cut_tri.specs.Cut.{IsCutInto, IsFarthest, height_at}
-use Rattle.cut_tri.specs.Cut.IsCutInto.{parts}
-use Rattle.cut_tri.specs.Cutting.{AreDiagonalPieces}
+use Rattle.cut_tri.specs.Cut.{IsFarthest, height_at}
+use Rattle.cut_tri.specs.Cutting.{AreDiagonalPieces, IsCutInto}
 use Rattle.cut_tri.specs.Piece.{IsLeastBelow, IsPiece}
 
 -- ---- the farthest vertex, as a point
@@ -106,9 +107,9 @@ module _ (corners : List Point) (v w : ℕ) (cs : List ℕ) (z : ℕ) (ds : List
           fits = both_fit corners v w cs z ds u polygon points_cut;
           cut = λ ts us first_cut second_cut.
               let xs = both_parts v (w ∷ cs) z (ds ++ u ∷ []) in
-              parts xs xs (length cs + 2) ts us
-              (read_from_first corners xs (omega arith) (subst (λ ys. IsLeastBelow corners ys (length ys) 0) regrouped least))
-              (subst (λ ys. IsFarthest corners ys (length cs + 2)) regrouped far)
+              cut_with_parts corners xs (simple_distinct corners xs polygon.simple)
+              (read_from_first corners xs (omega arith) (subst (λ ys. IsLeastBelow corners ys (length ys) 0) regrouped least)) (length cs + 2)
+              (subst (λ ys. IsFarthest corners ys (length cs + 2)) regrouped far) ts us
               (subst (λ ys. IsCutInto corners ys ts) (sym first_is) first_cut)
               (subst (λ ys. IsCutInto corners (v ∷ ys) us) (sym second_is) second_cut);
         }

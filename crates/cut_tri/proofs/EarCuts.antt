@@ -6,11 +6,12 @@ use Rattle.meshes.proofs.Joins.{contains_rest}
 use Rattle.meshes.proofs.Triangulations.{ear_fits, rest_is_piece, triangle_fits}
 use Rattle.meshes.specs.Fits.{FitsPiece}
 use Rattle.cut_tri.proofs.CornerPlaces.{none_before, none_in_triangle}
+use Rattle.cut_tri.proofs.CutSets.{cut_alone, cut_with_ear}
+use Rattle.cut_tri.proofs.DistinctCorners.{simple_distinct}
 use Rattle.cut_tri.proofs.Members.{members_of_numbers, numbers_of_members}
 use Rattle.cut_tri.proofs.Shapes.{by_ends, ends_length, first_tri_is}
 use Rattle.cut_tri.proofs.Readings.{read_from_first}
 use Rattle.cut_tri.specs.Cut.{IsPlaceInCorner}
-use Rattle.cut_tri.specs.Cut.IsCutInto.{ear, triangle}
 use Rattle.cut_tri.specs.Cutting.{IsEarCut, IsTriangle}
 use Rattle.cut_tri.specs.Piece.{IsLeastBelow, IsPiece, tri_at_first}
 
@@ -32,7 +33,7 @@ module _ (corners : List Point) where
   triangle_cut xs piece least three = record {
     fits = by_ends (λ xs. IsPiece corners xs → IsLeastBelow corners xs (length xs) 0 → length xs ≡ 3 → FitsPiece corners xs (tri_at_first xs ∷ []))
         fits_itself xs piece.polygon.some piece least three;
-    cut = triangle xs xs (read_from_first corners xs (omega (arith, three)) least) three;
+    cut = cut_alone corners xs (simple_distinct corners xs piece.polygon.simple) (read_from_first corners xs (omega (arith, three)) least) three;
   }
 
 -- ---- ears
@@ -57,8 +58,8 @@ module _ (corners : List Point) (v w : ℕ) (ms : List ℕ) (u : ℕ) (piece : I
             (ear_fits corners v w ms u piece.polygon least_point some none_in ts fit);
         cut = λ ts is_cut.
             let xs = v ∷ w ∷ (ms ++ u ∷ []) in
-            ear xs xs ts (read_from_first corners xs (omega arith) least) (omega (arith, ends_length v w ms u))
-            (λ k in_corner. none k (omega (arith, in_corner.before_last)) in_corner) is_cut;
+            cut_with_ear corners xs (simple_distinct corners xs piece.polygon.simple) (read_from_first corners xs (omega arith) least)
+            (omega (arith, ends_length v w ms u)) (λ k in_corner. none k (omega (arith, in_corner.before_last)) in_corner) ts is_cut;
       }
 
 module _ (corners : List Point) where

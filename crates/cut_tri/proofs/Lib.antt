@@ -1,16 +1,18 @@
 mod AllowedSteps
-pub mod Candidates
+mod Candidates
 mod Completion
 mod CornerPlaces
+mod CutSets
 pub mod DiagonalCuts
 mod DistinctCorners
 pub mod EarCuts
 mod LeastTurns
 mod Members
-pub mod OneCut
 mod OneReading
-pub mod Readings
+mod Readings
 pub mod RotatedCuts
 pub mod Shapes
+pub mod SomeCut
+pub mod TriangleLists
 pub mod WholePiece
 mod WorkList

@@ -6,8 +6,9 @@ use Rattle.std.proofs.lemmas.List.{append-nil, append_assoc, drop-append-le, get
 use Rattle.std.proofs.lemmas.List.{take-append-le}
 use Rattle.plane.specs.Point.{Point}
 use Rattle.meshes.specs.declared.tri.Tri.{Tri}
-use Rattle.cut_tri.specs.Cut.{IsCutInto, IsReadFromLeast}
-use Rattle.cut_tri.specs.Cut.IsCutInto.{ear, parts, triangle}
+use Rattle.cut_tri.specs.Cut.{IsCutTriangle, IsReadFromLeast}
+use Rattle.cut_tri.specs.Cut.IsCutTriangle.{first, rest, second, triangle}
+use Rattle.cut_tri.specs.Cutting.{IsCutInto}
 use Rattle.cut_tri.specs.Piece.{IsLeastBelow}
 
 -- a piece whose first vertex is its least is so read as it stands
@@ -54,15 +55,18 @@ module _ (corners : List Point) (xs ys : List ℕ) where
         }
   ]
 
--- pieces that are read in one way are cut into the same triangles
-cut_of_reading : (corners : List Point) (piece other : List ℕ) (ts : List Tri)
+-- pieces that are read in one way have the same triangles
+cut_of_reading : (corners : List Point) (i j k : ℕ) (piece other : List ℕ)
     → ((read : List ℕ) → IsReadFromLeast corners piece read → IsReadFromLeast corners other read)
-    → IsCutInto corners piece ts → IsCutInto corners other ts
-cut_of_reading corners piece other ts reads (triangle p read is three) = triangle other read (reads read is) three
-cut_of_reading corners piece other ts reads (ear p read rest is more none cut) = ear other read rest (reads read is) more none cut
-cut_of_reading corners piece other ts reads (parts p read place first second is far cut cut_too) =
-    parts other read place first second (reads read is) far cut cut_too
+    → IsCutTriangle corners i j k piece → IsCutTriangle corners i j k other
+cut_of_reading corners i j k piece other reads (triangle p read is some empty round) = triangle other read (reads read is) some empty round
+cut_of_reading corners i j k piece other reads (rest p read is more empty cut) = rest other read (reads read is) more empty cut
+cut_of_reading corners i j k piece other reads (first p read place is far cut) = first other read place (reads read is) far cut
+cut_of_reading corners i j k piece other reads (second p read place is far cut) = second other read place (reads read is) far cut
 
 -- so the piece is cut into the same triangles
 pub cut_of_rotated : (corners : List Point) (xs ys : List ℕ) (ts : List Tri) → IsCutInto corners (ys ++ xs) ts → IsCutInto corners (xs ++ ys) ts
-cut_of_rotated corners xs ys ts = cut_of_reading corners (ys ++ xs) (xs ++ ys) ts (read_of_rotated corners xs ys)
+cut_of_rotated corners xs ys ts cut = λ i j k. (
+  λ has. cut_of_reading corners i j k (ys ++ xs) (xs ++ ys) (read_of_rotated corners xs ys) ((cut i j k).0 has),
+  λ is. (cut i j k).1 (cut_of_reading corners i j k (xs ++ ys) (ys ++ xs) (read_of_rotated corners ys xs) is),
+)

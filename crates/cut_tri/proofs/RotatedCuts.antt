@@ -1,5 +1,5 @@
 -- What is left of a piece read from another vertex on is left of the piece.
-use Rattle.std.proofs.Common.{sym, subst, ℕ, ◌<◌, List, ◌++◌, length, get_or, take, drop, Result, Ok, Err, arith}
+use Rattle.std.proofs.Common.{sym, subst, ℕ, ◌<◌, List, [], ◌∷◌, ◌++◌, length, get_or, take, drop, Result, Ok, Err, arith}
 use Rattle.std.proofs.lemmas.List.{length-append, take-append-drop}
 use Rattle.std.proofs.lemmas.List.Elements.{Contains-get_or}
 use Rattle.std.specs.List.{Contains}
@@ -19,19 +19,19 @@ use Rattle.cut_tri.specs.declared.cut.Remains.TheVariants.{Ear, Parts, Triangle}
 module _ (corners : List Point) (xs ys : List ℕ) where
   -- what is left of it
   cut_rotated : (remains : Remains) → IsCutOf corners (ys ++ xs) remains → IsCutOf corners (xs ++ ys) remains
-  cut_rotated (Triangle tri) is = record { fits = fits_rotated corners ys xs _ is.fits; cut = cut_of_rotated corners xs ys _ is.cut }
+  cut_rotated (Triangle tri) is = record { fits = fits_rotated corners ys xs _ is.fits; cut = cut_of_rotated corners xs ys (tri ∷ []) is.cut }
   cut_rotated (Ear tri rest) is = record {
     rest_is_piece = is.rest_is_piece;
     shorter = omega (arith, is.shorter, length-append xs ys, length-append ys xs);
     fits = λ ts fit. fits_rotated corners ys xs _ (is.fits ts fit);
-    cut = λ ts is_cut. cut_of_rotated corners xs ys _ (is.cut ts is_cut);
+    cut = λ ts is_cut. cut_of_rotated corners xs ys (tri ∷ ts) (is.cut ts is_cut);
   }
   cut_rotated (Parts first second) are = record {
     first_is_piece = are.first_is_piece;
     second_is_piece = are.second_is_piece;
     lengths = omega (arith, are.lengths, length-append xs ys, length-append ys xs);
     fits = λ ts us fit fit_too. fits_rotated corners ys xs _ (are.fits ts us fit fit_too);
-    cut = λ ts us is_cut is_cut_too. cut_of_rotated corners xs ys _ (are.cut ts us is_cut is_cut_too);
+    cut = λ ts us is_cut is_cut_too. cut_of_rotated corners xs ys (ts ++ us) (are.cut ts us is_cut is_cut_too);
   }
 
   -- if there is memory

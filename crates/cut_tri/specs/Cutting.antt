@@ -1,13 +1,18 @@
 -- What one cut leaves of a piece, and how triangles of what is left are triangles of the piece. No public clause cites this
 -- module.
-use Rattle.std.specs.Prelude.{◌≡◌, ℕ, ◌+◌, List, [], ◌∷◌, ◌++◌, length}
+use Rattle.std.specs.Prelude.{◌≡◌, ◌↔◌, ℕ, ◌+◌, List, [], ◌∷◌, ◌++◌, length}
 use Rattle.plane.specs.Point.{Point}
 use Rattle.meshes.specs.Fits.{FitsPiece}
 use Rattle.meshes.specs.declared.tri.Tri.{Tri}
-use Rattle.cut_tri.specs.Cut.{IsCutInto}
+use Rattle.cut_tri.specs.Cut.{IsCutTriangle}
 use Rattle.cut_tri.specs.Piece.{IsPiece}
+use Rattle.cut_tri.specs.Triangles.{HasTriangle}
 use Rattle.cut_tri.specs.declared.cut.Remains.{Remains}
 use Rattle.cut_tri.specs.declared.cut.Remains.TheVariants.{Triangle, Ear, Parts}
+
+-- the triangles of the list, in any order and each read from any corner, are those of the cut of the piece
+abbrev pub IsCutInto : List Point → List ℕ → List Tri → Type 0
+IsCutInto corners piece tris = (i j k : ℕ) → HasTriangle tris i j k ↔ IsCutTriangle corners i j k piece
 
 -- a triangle and nothing else
 pub record IsTriangle (corners : List Point) (piece : List ℕ) (tri : Tri) : Type 0 where

@@ -1,7 +1,7 @@
 // Laws of the triangulation, each as the contract of a call that does nothing when it runs.
-ghost use Rattle.cut_tri.specs.Cut.{OneCutLaw};
+ghost use Rattle.cut_tri.specs.Cut.{SomeCutTriangulationLaw};
 
-/// The vertices of a simple ring determine its triangulation.
-pub fn one_cut()
-    ensures { OneCutLaw }
+/// A simple polygon has a cut triangulation that fits it.
+pub fn some_cut_triangulation()
+    ensures { SomeCutTriangulationLaw }
 {}

@@ -6,5 +6,5 @@ mod farthest;
 mod laws;
 mod triangulation;
 
-pub use laws::one_cut;
+pub use laws::some_cut_triangulation;
 pub use triangulation::triangulate;

@@ -12,8 +12,8 @@ use std::alloc::Global;
 use std::sync::ledger::Ledger;
 use tri_mesh::Mesh;
 
-/// The triangulation of the polygon that its vertices determine: pieces are cut at their lexicographically least vertex, along one
-/// diagonal after another, until each is a triangle. For n vertices it takes at most 130 n n steps, want of memory or not.
+/// Returns the cut triangulation of a polygon: pieces are cut at their lexicographically least vertices, along one diagonal after
+/// another, until each is a triangle. For n vertices it takes at most 130 n n steps, also where it runs out of memory.
 pub fn triangulate<L: Ledger>(
     alloc: Global,
     ring: &Ring,

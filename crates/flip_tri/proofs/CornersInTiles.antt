@@ -1,21 +1,19 @@
 -- A vertex of a tiled piece is in the triangles that have it as a corner, and in no others.
-use Rattle.std.proofs.Common.{◌≡◌, ◌⊎◌, inl, inr, refl, sym, ap, subst, ◌∙◌, ℕ, ◌+◌, ◌%◌, ◌<◌, ℤ, pos, ◌<ℤ◌, List, length, get_or, arith, mod-lt}
-use Rattle.std.proofs.lemmas.List.{get_or-map}
+use Rattle.std.proofs.Common.{◌≡◌, ◌⊎◌, inl, inr, refl, sym, subst, ◌∙◌, ℕ, ◌+◌, ◌%◌, ℤ, pos, ◌<ℤ◌, List, length, get_or}
 use Rattle.std.specs.List.{Contains}
 use Rattle.integer_algebra.proofs.Signs.{is_negative, is_positive, is_zero, sign}
 use Rattle.plane.proofs.Points.{same_whole, whole_is_point}
 use Rattle.plane.proofs.Segments.{on_first_end, on_reversed}
 use Rattle.plane.specs.Point.{Point, whole}
 use Rattle.plane.specs.Segment.{On}
-use Rattle.rings.proofs.Vertices.{has_edge_at}
-use Rattle.rings.specs.Edge.{HasEdge, edge, edges_of}
-use Rattle.rings.specs.Ring.{origin, vertex}
+use Rattle.rings.specs.Edge.{edge}
+use Rattle.rings.specs.Ring.{vertex}
 use Rattle.ring_laws.proofs.Triangles.{on_first_side, on_second_side, on_third_side}
 use Rattle.meshes.proofs.Boundaries.{IsPartTiling}
 use Rattle.meshes.proofs.Joins.{place_of}
 use Rattle.meshes.proofs.Parts.{inside_off_edges, one_vertex, shared_is_diagonal, shared_of, side_numbers, vertex_is_end, vertex_on_ring}
 use Rattle.meshes.proofs.Sides.{edge_of_piece, edge_or_not}
-use Rattle.meshes.specs.Fits.{IsInTri, IsPieceEdge, piece_points}
+use Rattle.meshes.specs.Fits.{IsInTri, IsPieceEdge}
 use Rattle.meshes.specs.Side.{HasCorner, HasSide, tri_at}
 use Rattle.meshes.specs.declared.tri.Tri.{Tri}
 

@@ -18,11 +18,11 @@ use Rattle.meshes.proofs.Sides.{edge_or_not, left_apart, one_number}
 use Rattle.meshes.specs.Side.{HasSide, tri_at}
 use Rattle.meshes.specs.declared.tri.Tri.{Tri}
 use Rattle.cut_tri.proofs.Shapes.{last_is}
+use Rattle.cut_tri.specs.Triangles.{HasRound}
 use Rattle.flip_tri.proofs.HalfPlanes.{left_trans}
 use Rattle.flip_tri.proofs.Rounds.{round_tile}
 use Rattle.flip_tri.specs.Fan.{Fan, IsAbout}
 use Rattle.flip_tri.specs.Fan.Fan.{last, next}
-use Rattle.flip_tri.specs.Flip.{HasRound}
 
 -- ---- the corners of a triangle
 

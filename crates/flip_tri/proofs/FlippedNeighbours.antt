@@ -4,9 +4,9 @@ use Rattle.std.proofs.lemmas.Bool.{cases_eq}
 use Rattle.std.specs.Prelude.{Option}
 use Rattle.meshes.specs.Side.{HasSide, HasSidesOnce, tri_at}
 use Rattle.meshes.specs.declared.tri.Tri.{Tri}
+use Rattle.cut_tri.specs.Triangles.{HasRound}
 use Rattle.flip_tri.proofs.HandedOver.{has_side_moved}
 use Rattle.flip_tri.proofs.TwoReplaced.{replaced_first, replaced_length, replaced_others, replaced_second}
-use Rattle.flip_tri.specs.Flip.{HasRound}
 use Rattle.flip_tri.specs.Flips.{IsQuadOf}
 use Rattle.flip_tri.specs.Shared.{IsAcrossFrom, flipped}
 use Rattle.flip_tri.specs.declared.quad.Quad.{Quad}

@@ -13,6 +13,7 @@ mod HandedOver
 mod HighestInFans
 mod MeshRows
 mod OneFlip
+mod OneToOne
 mod Progress
 mod Ranks
 mod Rounds
@@ -21,5 +22,4 @@ mod SettledFans
 mod SettledIsCut
 mod SettledSides
 mod SharedQuads
-mod SomeCut
 mod TwoReplaced

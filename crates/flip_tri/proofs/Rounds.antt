@@ -10,7 +10,7 @@ use Rattle.meshes.proofs.Sides.{below_of_member, corners_differ}
 use Rattle.meshes.specs.Fits.{Fits, IsCounterclockwiseTri, IsInTri, IsTriOf}
 use Rattle.meshes.specs.Side.{HasCorner, HasSide, tri_at}
 use Rattle.meshes.specs.declared.tri.Tri.{Tri}
-use Rattle.flip_tri.specs.Flip.{HasRound}
+use Rattle.cut_tri.specs.Triangles.{HasRound}
 use Rattle.flip_tri.specs.Flips.{IsQuadBelow, IsQuadOf}
 use Rattle.flip_tri.specs.declared.quad.Quad.{Quad}
 

@@ -1,59 +1,39 @@
--- Where no diagonal of a mesh is to be flipped, each triangle into which the polygon is cut is one of the mesh.
-use Rattle.std.proofs.Common.{◌≡◌, inl, refl, sym, ap, subst, ◌∙◌, ℕ, zero, suc, ◌+◌, ◌<◌, ◌≤◌, pos, ◌<ℤ◌, List, [], ◌∷◌, ◌++◌, length, get_or}
+-- Where no diagonal of a mesh is to be flipped, each triangle of the cut is one of the mesh.
+use Rattle.std.proofs.Common.{◌≡◌, inl, refl, sym, ap, subst, ◌∙◌, ℕ, ◌+◌, ◌<◌, pos, ◌<ℤ◌, List, [], ◌∷◌, ◌++◌, length, get_or}
 use Rattle.std.proofs.Common.{arith, drop, take}
 use Rattle.std.proofs.lemmas.List.{length-append, take-append-drop}
-use Rattle.std.specs.List.{Contains, range_with_len}
+use Rattle.std.specs.List.{Contains}
 use Rattle.plane.proofs.Order.{after, before, compare_points, equal}
 use Rattle.plane.proofs.Turns.{determinant_shift_back}
 use Rattle.plane.specs.Order.{IsBefore}
 use Rattle.plane.specs.Point.{Point, whole}
 use Rattle.plane.specs.Turn.{IsLeft}
-use Rattle.rings.specs.Orientation.{IsCounterclockwise}
 use Rattle.rings.specs.Ring.{vertex}
-use Rattle.rings.specs.Simple.{IsSimple}
 use Rattle.meshes.proofs.Boundaries.{LiesInPart}
 use Rattle.meshes.proofs.Joins.{both_parts, contains_first, place_of}
 use Rattle.meshes.proofs.Parts.{one_vertex}
 use Rattle.meshes.proofs.Sides.{edge_of_step}
-use Rattle.meshes.proofs.Walks.{IsPlace}
-use Rattle.meshes.specs.Fits.{Fits}
 use Rattle.meshes.specs.Side.{HasSide, tri_at}
 use Rattle.meshes.specs.declared.tri.Tri.{Tri}
 use Rattle.cut_tri.proofs.DiagonalCuts.{first_is, others, parts_cut, regrouped, second_is, z_is}
 use Rattle.cut_tri.proofs.EarCuts.{ear_cut}
 use Rattle.cut_tri.proofs.RotatedCuts.{piece_from}
 use Rattle.cut_tri.proofs.Shapes.{by_ends, by_split, ends_length, first_tri_is, middle_is}
-use Rattle.cut_tri.proofs.WholePiece.{all_is_piece}
-use Rattle.cut_tri.specs.Cut.{IsCutInto, IsCutTriangulation, IsFarthest, IsPlaceInCorner, IsReadFromLeast}
-use Rattle.cut_tri.specs.Cut.IsCutInto.{ear, parts, triangle}
+use Rattle.cut_tri.proofs.TriangleLists.{round_of_round}
+use Rattle.cut_tri.specs.Cut.{IsCutTriangle, IsEmptyCorner, IsFarthest, IsReadFromLeast}
+use Rattle.cut_tri.specs.Cut.IsCutTriangle.{first, rest, second, triangle}
 use Rattle.cut_tri.specs.Piece.{IsLeastBelow, IsPiece, tri_at_first}
-use Rattle.flip_tri.proofs.DirectedTilings.{IsDirectedTiling, directed_rotated, first_tiles, mesh_tiles, not_next, rest_tiles, second_tiles}
+use Rattle.cut_tri.specs.Triangles.{HasTriangle}
+use Rattle.flip_tri.proofs.DirectedTilings.{IsDirectedTiling, directed_rotated, first_tiles, not_next, rest_tiles, second_tiles}
 use Rattle.flip_tri.proofs.FarthestSides.{farthest_side}
 use Rattle.flip_tri.proofs.Fans.{fan_at_first, left_of_fan, round_from_second}
 use Rattle.flip_tri.proofs.SettledFans.{triangle_at_first}
 use Rattle.flip_tri.specs.Fan.{Fan, IsAbout}
-use Rattle.flip_tri.specs.Flip.{HasRound, HasNoFlips}
+use Rattle.flip_tri.specs.Flip.{HasNoFlips}
 
--- ---- triangles of the list
-
--- one of them runs round the corners of t
-abbrev pub HasTriangle : List Tri → Tri → Type 0
-HasTriangle tris t = (l : ℕ) × (l < length tris) × HasRound (tri_at tris l) t.a t.b t.c
-
--- so it is with each triangle of another list
-abbrev HasAll : List Tri → List Tri → Type 0
-HasAll tris ts = (k : ℕ) → k < length ts → HasTriangle tris (tri_at ts k)
-
--- it is where it is with the first and with the rest,
-has_more : (tris : List Tri) (t : Tri) (ts : List Tri) → HasTriangle tris t → HasAll tris ts → HasAll tris (t ∷ ts)
-has_more tris t ts has all zero less = has
-has_more tris t ts has all (suc k) less = all k (omega (arith, less))
-
--- and where it is with those of two lists that it is made of
-has_both : (tris ts us : List Tri) → HasAll tris ts → HasAll tris us → HasAll tris (ts ++ us)
-has_both tris [] us all further = further
-has_both tris (t ∷ ts) us all further =
-    has_more tris t (ts ++ us) (all 0 (omega arith)) (has_both tris ts us (λ k less. all (suc k) (omega (arith, less))) further)
+-- some triangle of the list has the corners of t round it
+abbrev pub HasThis : List Tri → Tri → Type 0
+HasThis tris t = HasTriangle tris t.a t.b t.c
 
 module _ (corners : List Point) (tris : List Tri) where
   -- ---- a piece whose first vertex is its least
@@ -89,16 +69,16 @@ module _ (corners : List Point) (tris : List Tri) where
         → (c : ℕ) × IsAbout tris P v (get_or (v ∷ w ∷ (ms ++ u ∷ [])) place 0) c
     side_to_farthest = farthest_side corners tris v w ms u P is.tiling later first_left fan
 
-    module _ (settled : HasNoFlips corners tris) (none : (k : ℕ) → ¬ IsPlaceInCorner corners (v ∷ w ∷ (ms ++ u ∷ [])) k) where
+    module _ (settled : HasNoFlips corners tris) (none : IsEmptyCorner corners (v ∷ w ∷ (ms ++ u ∷ []))) where
       -- where the corner is empty, its triangle is one of the fan,
       corner_triangle : IsAbout tris P v w u
       corner_triangle = triangle_at_first corners tris settled v w ms u P is.tiling later none fan
 
       -- so one of the list,
-      has_first : HasTriangle tris (tri_at_first (v ∷ w ∷ (ms ++ u ∷ [])))
+      has_first : HasThis tris (tri_at_first (v ∷ w ∷ (ms ++ u ∷ [])))
       has_first =
           let t = tri_at tris corner_triangle.tri in
-          subst (HasTriangle tris) (sym (first_tri_is v w ms u)) (
+          subst (HasThis tris) (sym (first_tri_is v w ms u)) (
             corner_triangle.tri,
             corner_triangle.in_list,
             round_from_second t w u v (round_from_second t v w u corner_triangle.round),
@@ -113,8 +93,8 @@ module _ (corners : List Point) (tris : List Tri) where
   module _ (P : ℕ → Type 0) where
     -- the triangles that lie in each of its two parts tile the part
     abbrev AreTiled : List ℕ → List ℕ → Type 0
-    AreTiled first second =
-        IsDirectedTiling corners first tris (LiesInPart corners tris P first) × IsDirectedTiling corners second tris (LiesInPart corners tris P second)
+    AreTiled part other =
+        IsDirectedTiling corners part tris (LiesInPart corners tris P part) × IsDirectedTiling corners other tris (LiesInPart corners tris P other)
 
     -- so it is where the second vertex, some others, the farthest one, some others and the last one follow the first,
     parts_tiled_at : (v w : ℕ) (cs : List ℕ) (z : ℕ) (ds : List ℕ) (u : ℕ) → IsDirectedTiling corners (both_parts v (w ∷ cs) z (ds ++ u ∷ [])) tris P
@@ -162,18 +142,18 @@ module _ (corners : List Point) (tris : List Tri) where
     module _ (settled : HasNoFlips corners tris) where
       -- where the corner at its first vertex is empty, the triangle there is one of the list,
       has_corner : (xs : List ℕ) → IsDirectedTiling corners xs tris P → IsLeastBelow corners xs (length xs) 0
-          → ((k : ℕ) → ¬ IsPlaceInCorner corners xs k) → HasTriangle tris (tri_at_first xs)
+          → IsEmptyCorner corners xs → HasThis tris (tri_at_first xs)
       has_corner xs is least none =
           by_ends (λ xs. IsDirectedTiling corners xs tris P → IsLeastBelow corners xs (length xs) 0
-          → ((k : ℕ) → ¬ IsPlaceInCorner corners xs k) → HasTriangle tris (tri_at_first xs))
+          → IsEmptyCorner corners xs → HasThis tris (tri_at_first xs))
           (λ v w ms u is least none. has_first v w ms u P is least settled none) xs is.tiling.some is least none
 
       -- and the rest is tiled
       rest_tiled : (xs : List ℕ) → IsDirectedTiling corners xs tris P → IsLeastBelow corners xs (length xs) 0
-          → ((k : ℕ) → ¬ IsPlaceInCorner corners xs k) → 3 < length xs → IsDirectedTiling corners (drop 1 xs) tris (LiesInPart corners tris P (drop 1 xs))
+          → IsEmptyCorner corners xs → 3 < length xs → IsDirectedTiling corners (drop 1 xs) tris (LiesInPart corners tris P (drop 1 xs))
       rest_tiled xs is least none more =
           by_ends (λ xs. IsDirectedTiling corners xs tris P → IsLeastBelow corners xs (length xs) 0
-          → ((k : ℕ) → ¬ IsPlaceInCorner corners xs k) → 3 < length xs → IsDirectedTiling corners (drop 1 xs) tris (LiesInPart corners tris P (drop 1 xs)))
+          → IsEmptyCorner corners xs → 3 < length xs → IsDirectedTiling corners (drop 1 xs) tris (LiesInPart corners tris P (drop 1 xs)))
           (λ v w ms u is least none more. rest_is_tiled v w ms u P is least settled none more) xs is.tiling.some is least none more
 
   -- ---- all cuts
@@ -182,35 +162,22 @@ module _ (corners : List Point) (tris : List Tri) where
   read_is_piece : (piece read : List ℕ) → IsReadFromLeast corners piece read → IsPiece corners piece → IsPiece corners read
   read_is_piece piece read reading is = subst (IsPiece corners) (sym reading.turned) (piece_from corners piece reading.place is)
 
-  -- each triangle into which a tiled piece is cut is one of the list, by induction on the cuts
-  cut_within : HasNoFlips corners tris → (piece : List ℕ) (cut : List Tri) → IsPiece corners piece → (P : ℕ → Type 0)
-      → IsDirectedTiling corners piece tris P → IsCutInto corners piece cut → HasAll tris cut
-  cut_within settled piece cut is P tiles (triangle p read reading three) =
-      has_more tris (tri_at_first read) []
-      (has_corner P settled read (tiles_read P piece read reading tiles) reading.least
-      (λ k in_corner. omega (arith, three, in_corner.after_second, in_corner.before_last)))
-      (λ k less. absurd (omega (arith, less)))
-  cut_within settled piece cut is P tiles (ear p read rest reading more none rest_cut) =
-      let here = tiles_read P piece read reading tiles in
-      let is_ear = ear_cut corners read (read_is_piece piece read reading is) reading.least (omega (arith, more)) (λ k within. none k) in
-      has_more tris (tri_at_first read) rest (has_corner P settled read here reading.least none)
-      (cut_within settled (drop 1 read) rest is_ear.rest_is_piece (LiesInPart corners tris P (drop 1 read))
-      (rest_tiled P settled read here reading.least none more) rest_cut)
-  cut_within settled piece cut is P tiles (parts p read place first second reading far first_cut second_cut) =
-      let (first_tiled, second_tiled) = parts_tiled P read place (tiles_read P piece read reading tiles) reading.least far in
-      let are_parts = parts_cut corners read place (read_is_piece piece read reading is) reading.least far in
-      has_both tris first second
-      (cut_within settled (take (place + 1) read) first are_parts.first_is_piece (LiesInPart corners tris P (take (place + 1) read)) first_tiled first_cut)
-      (cut_within settled (get_or read 0 0 ∷ drop place read) second are_parts.second_is_piece
-      (LiesInPart corners tris P (get_or read 0 0 ∷ drop place read)) second_tiled second_cut)
-
--- ---- the polygon
-
--- each triangle into which a polygon is cut is one of a settled mesh
-pub settled_has : (corners : List Point) (tris cut : List Tri) → 3 ≤ length corners → IsSimple corners → IsCounterclockwise corners → Fits corners tris
-    → HasNoFlips corners tris → IsCutTriangulation corners cut → (k : ℕ) → k < length cut
-    → (l : ℕ) × (l < length tris) × HasRound (tri_at tris l) (tri_at cut k).a (tri_at cut k).b (tri_at cut k).c
-settled_has corners tris cut some simple way fits settled is_cut =
-    let all = all_is_piece corners some simple way in
-    let piece : List ℕ = range_with_len 0 (length corners) in
-    cut_within corners tris settled piece cut all (IsPlace tris) (mesh_tiles corners piece tris all.polygon.some fits) is_cut
+  module _ (settled : HasNoFlips corners tris) (i j k : ℕ) where
+    -- each triangle of the cut of a tiled piece is one of the list, by induction on the cuts
+    pub cut_within : (piece : List ℕ) → IsPiece corners piece → (P : ℕ → Type 0) → IsDirectedTiling corners piece tris P
+        → IsCutTriangle corners i j k piece → HasTriangle tris i j k
+    cut_within piece is P tiles (triangle p read reading some empty round) =
+        let (l, less, has) = has_corner P settled read (tiles_read P piece read reading tiles) reading.least empty in
+        (l, less, round_of_round (tri_at tris l) (tri_at_first read) has i j k round)
+    cut_within piece is P tiles (rest p read reading more empty cut) =
+        let here = tiles_read P piece read reading tiles in
+        let is_ear = ear_cut corners read (read_is_piece piece read reading is) reading.least (omega (arith, more)) (λ n within. empty n) in
+        cut_within (drop 1 read) is_ear.rest_is_piece (LiesInPart corners tris P (drop 1 read)) (rest_tiled P settled read here reading.least empty more) cut
+    cut_within piece is P tiles (first p read place reading far cut) =
+        let tiled = parts_tiled P read place (tiles_read P piece read reading tiles) reading.least far in
+        let are_parts = parts_cut corners read place (read_is_piece piece read reading is) reading.least far in
+        cut_within (take (place + 1) read) are_parts.first_is_piece (LiesInPart corners tris P (take (place + 1) read)) tiled.0 cut
+    cut_within piece is P tiles (second p read place reading far cut) =
+        let tiled = parts_tiled P read place (tiles_read P piece read reading tiles) reading.least far in
+        let are_parts = parts_cut corners read place (read_is_piece piece read reading is) reading.least far in
+        cut_within (get_or read 0 0 ∷ drop place read) are_parts.second_is_piece (LiesInPart corners tris P (get_or read 0 0 ∷ drop place read)) tiled.1 cut

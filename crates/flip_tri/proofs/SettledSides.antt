@@ -9,9 +9,9 @@ use Rattle.meshes.specs.Mesh.{side_begin, side_end}
 use Rattle.meshes.specs.Side.{HasSide, tri_at}
 use Rattle.meshes.specs.declared.tri.Tri.{Tri}
 use Rattle.tri_mesh.proofs.Neighbours.{numbered_side}
+use Rattle.cut_tri.specs.Triangles.{HasRound}
 use Rattle.flip_tri.proofs.HandedOver.{has_side_moved, side_numbered}
 use Rattle.flip_tri.proofs.SharedQuads.{quad_of_shared}
-use Rattle.flip_tri.specs.Flip.{HasRound}
 use Rattle.flip_tri.specs.Flips.{IsQuadOf, IsQuadToFlip, HasNoFlipAt}
 use Rattle.flip_tri.specs.Shared.{HasNoFlipOver, IsShared, quad_of}
 use Rattle.flip_tri.specs.declared.flips.Shared.{Shared}

@@ -5,8 +5,8 @@ use Rattle.std.specs.Prelude.{Option, slice_set}
 use Rattle.meshes.specs.Mesh.{side_begin, side_end}
 use Rattle.meshes.specs.Side.{HasSidesOnce, tri_at}
 use Rattle.meshes.specs.declared.tri.Tri.{Tri}
+use Rattle.cut_tri.specs.Triangles.{HasRound}
 use Rattle.flip_tri.proofs.FlippedNeighbours.{HasBeside, IsFlip}
-use Rattle.flip_tri.specs.Flip.{HasRound}
 use Rattle.flip_tri.specs.Flips.{IsQuadOf, KnowsNeighbours}
 use Rattle.flip_tri.specs.Shared.{IsAcrossFrom, IsShared, corner_across, entry, flipped, next_side, quad_of}
 use Rattle.flip_tri.specs.declared.flips.Shared.{Shared}

@@ -2,7 +2,7 @@
 use Rattle.std.specs.Prelude.{ℕ, ◌<◌, List, length}
 use Rattle.meshes.specs.Side.{tri_at}
 use Rattle.meshes.specs.declared.tri.Tri.{Tri}
-use Rattle.flip_tri.specs.Flip.{HasRound}
+use Rattle.cut_tri.specs.Triangles.{HasRound}
 
 -- of triangles with numbers in P one runs round v, p and c
 pub record IsAbout (tris : List Tri) (P : ℕ → Type 0) (v p c : ℕ) : Type 0 where

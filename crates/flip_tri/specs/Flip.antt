@@ -4,16 +4,9 @@ use Rattle.plane.specs.Order.{IsBefore}
 use Rattle.plane.specs.Point.{Point, whole}
 use Rattle.plane.specs.Turn.{IsLeft}
 use Rattle.rings.specs.Ring.{vertex}
-use Rattle.meshes.specs.Fits.{Fits}
-use Rattle.meshes.specs.Side.{HasSide, tri_at}
+use Rattle.meshes.specs.Side.{tri_at}
 use Rattle.meshes.specs.declared.tri.Tri.{Tri}
-use Rattle.cut_tri.specs.Cut.{IsCutTriangulation}
-
--- the triangle has the corners i, j and k, in this order round it
-pub record HasRound (t : Tri) (i j k : ℕ) : Type 0 where
-  pub first : HasSide t i j
-  pub second : HasSide t j k
-  pub third : HasSide t k i
+use Rattle.cut_tri.specs.Triangles.{HasRound}
 
 -- the diagonal from i to j of two triangles, with the corner c on its left and d on its right, is to be flipped: the least of the four is
 -- i, and their quadrilateral turns left at j
@@ -29,11 +22,3 @@ pub record IsToFlip (corners : List Point) (t u : Tri) (i j c d : ℕ) : Type 0 
 abbrev pub HasNoFlips : List Point → List Tri → Type 0
 HasNoFlips corners tris =
     (k l i j c d : ℕ) → k < length tris → l < length tris → ¬ IsToFlip corners (tri_at tris k) (tri_at tris l) i j c d
-
--- the triangles are those into which the ring is cut, in any order, each read from any of its corners
-pub record AreCutTriangles (corners : List Point) (tris : List Tri) : Type 0 where
-  pub cut : List Tri
-  pub fits : Fits corners cut
-  pub is_cut : IsCutTriangulation corners cut
-  pub each : (k : ℕ) → k < length cut
-      → (l : ℕ) × (l < length tris) × HasRound (tri_at tris l) (tri_at cut k).a (tri_at cut k).b (tri_at cut k).c

@@ -9,7 +9,8 @@ use Rattle.meshes.specs.Fits.{Fits}
 use Rattle.meshes.specs.Mesh.{side_begin, side_end}
 use Rattle.meshes.specs.Side.{HasSide, tri_at}
 use Rattle.meshes.specs.declared.tri.Tri.{Tri}
-use Rattle.flip_tri.specs.Flip.{HasRound, IsToFlip}
+use Rattle.cut_tri.specs.Triangles.{HasRound}
+use Rattle.flip_tri.specs.Flip.{IsToFlip}
 use Rattle.flip_tri.specs.Ranks.{rank_sum}
 use Rattle.flip_tri.specs.declared.quad.Quad.{Quad}
 

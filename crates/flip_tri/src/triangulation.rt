@@ -1,6 +1,6 @@
 ghost use Rattle.std.specs.Prelude.{◌+◌, ◌*◌, ◌≤◌, IfOk, length};
 ghost use Rattle.meshes.specs.Fits.{Fits};
-ghost use Rattle.flip_tri.specs.Flip.{AreCutTriangles};
+ghost use Rattle.cut_tri.specs.Cut.{IsCutTriangulation};
 
 use crate::flips::Flips;
 use crate::waiting::Waiting;
@@ -11,8 +11,8 @@ use std::alloc::Global;
 use std::sync::ledger::Ledger;
 use tri_mesh::Mesh;
 
-/// The triangles into which a polygon is cut at its lexicographically least vertices, in any order, from those of any mesh that fits
-/// it: diagonals are flipped as long as one is to be (Lawson 1977). For n vertices it takes at most 24 n n steps.
+/// Returns the cut triangulation of a polygon, from any mesh that fits it: diagonals are flipped as long as one is to be (Lawson 1977).
+/// For n vertices it takes at most 24 n n steps.
 pub fn cut_triangles<L: Ledger>(
     alloc: Global,
     ring: &Ring,
@@ -21,7 +21,7 @@ pub fn cut_triangles<L: Ledger>(
 ) -> Result<Vec<Tri>, Memory>
     requires { Fits ring.now.corners mesh.now }
     ensures fits { IfOk result (λ tris. Fits ring.now.corners tris.items) }
-    ensures cut { IfOk result (λ tris. AreCutTriangles ring.now.corners tris.items) }
+    ensures cut { IfOk result (λ tris. IsCutTriangulation ring.now.corners tris.items) }
     ensures steps { let n = length ring.now.corners in steps.new ≤ steps.old + 24 * (n * n) }
 {
     // What holds of every ring.

@@ -4,12 +4,9 @@ use Rattle.std.proofs.lemmas.List.{length-map}
 use Rattle.std.specs.Prelude.{map, slice_index}
 use Rattle.plane.specs.Point.{Point}
 use Rattle.rings.specs.Chain.{point_at}
-use Rattle.rings.specs.Simple.{IsSimple}
-use Rattle.meshes.proofs.Sides.{piece_points_all}
-use Rattle.meshes.specs.declared.tri.Tri.{Tri}
 use Rattle.ring_check.specs.Oriented.{oriented}
-use Rattle.cut_tri.specs.Cut.{OneCutLaw}
-use Rattle.guards3.specs.Guards.{AreGuards, OneGuardsLaw}
+use Rattle.cut_tri.proofs.TriangleLists.{same_triangles}
+use Rattle.guards3.specs.Guards.{OneGuardsLaw}
 use Rattle.rel_hull.proofs.Closing.{only_round}
 use Rattle.rel_hull.specs.Round.{IsRound}
 use Rattle.geo_session.proofs.HullTable.{some_numbers}
@@ -33,11 +30,9 @@ module _ (ring points : List Point) where
 
 -- ---- the guards of a ring
 
-module _ (one_cut : OneCutLaw) (one_guards : OneGuardsLaw) where
-  -- the triangles are one list, and so are the guards
+module _ (one_guards : OneGuardsLaw) where
+  -- each triangle of the cut is in both lists, so the guards are one list
   pub one_guarding : (ring : List Point) (guards other : List ℕ) → GuardRing ring guards → GuardRing ring other → guards ≡ other
   one_guarding ring guards other h g =
       let kept = oriented ring in
-      let simple : IsSimple kept.corners = subst IsSimple (piece_points_all kept.corners) h.fits.simple in
-      let tris : h.tris ≡ g.tris = one_cut kept.corners simple h.tris g.tris h.cut g.cut in
-      one_guards kept g.tris g.fits guards other (subst (λ (ts : List Tri). AreGuards kept ts guards) tris h.are_guards) g.are_guards
+      one_guards kept h.tris g.tris h.fits (same_triangles kept.corners h.tris g.tris h.cut g.cut) guards other h.are_guards g.are_guards

@@ -16,7 +16,6 @@ use Rattle.geo_text.specs.declared.command.Command.TheVariants as command
 use Rattle.geo_text.specs.declared.version.Version.{Version}
 use Rattle.inside_test.specs.declared.position.Position.{Position}
 use Rattle.inside_test.specs.declared.position.Position.TheVariants as position
-use Rattle.cut_tri.specs.Cut.{OneCutLaw}
 use Rattle.guards3.specs.Guards.{OneGuardsLaw}
 use Rattle.pair_cut.specs.Pairs.{OneSightsLaw}
 use Rattle.geo_reply.specs.ReplyText.{reply_text}
@@ -294,7 +293,7 @@ alike : (before : State) (asked : Command) (one other : Reply) → one ≡ other
     → (reply_text one ≡ reply_text other) × (state_after before asked one ≡ state_after before asked other)
 alike before asked one other e = (ap reply_text e, ap (state_after before asked) e)
 
-module _ (one_cut : OneCutLaw) (one_guards : OneGuardsLaw) (one_sights : OneSightsLaw) where
+module _ (one_guards : OneGuardsLaw) (one_sights : OneSightsLaw) where
   pub one_reply : OneReplyLaw
   one_reply before command.Two one other h g = alike before command.Two one other (h ∙ sym g)
   one_reply before (command.Polygon ring) one other h g = alike before (command.Polygon ring) one other (one_polygon ring one other h g)
@@ -309,7 +308,7 @@ module _ (one_cut : OneCutLaw) (one_guards : OneGuardsLaw) (one_sights : OneSigh
   one_reply before (command.Round points) one other h g = alike before (command.Round points) one other (one_round_of before points one other h g)
   one_reply before command.Guards one other h g =
       alike before command.Guards one other
-      (one_of Same same before.version before.kept command.Guards one other (λ k. one_told reply.Guards _ (one_guarding one_cut one_guards k.ring) one other) h g)
+      (one_of Same same before.version before.kept command.Guards one other (λ k. one_told reply.Guards _ (one_guarding one_guards k.ring) one other) h g)
   one_reply before (command.Pair i j) one other h g =
       alike before (command.Pair i j) one other (one_pair_of before i j one other h g)
   one_reply before command.Sights one other h g =

@@ -7,8 +7,8 @@ use Rattle.ring_check.specs.Oriented.{oriented}
 use Rattle.cut_tri.specs.Cut.{IsCutTriangulation}
 use Rattle.guards3.specs.Guards.{AreGuards, SeeAll}
 
--- the numbers are the guards of a ring, by the triangles that its vertices determine; they are at most a third of the vertices, and each
--- rational point of the ring is seen by one of them
+-- the numbers are the guards of a ring, by its cut triangulation; they are at most a third of the vertices, and each rational point of the
+-- ring is seen by one of them
 pub record GuardRing (ring : List Point) (guards : List ℕ) : Type 0 where
   pub tris : List Tri
   pub fits : Fits (oriented ring).corners tris

@@ -6,7 +6,7 @@ use Rattle.std.proofs.lemmas.Bool.{cases_lt, cases_eq}
 use Rattle.std.proofs.lemmas.List.Elements.{Contains-get_or}
 use Rattle.std.specs.List.{Contains}
 use Rattle.meshes.specs.Fits.{Fits}
-use Rattle.meshes.specs.Side.{tri_at}
+use Rattle.meshes.specs.Side.{HasSide, tri_at}
 use Rattle.meshes.specs.declared.tri.Tri.{Tri}
 use Rattle.ring_check.specs.Oriented.{Oriented, given_index}
 use Rattle.guards3.proofs.ClassMembers.{class_at, class_of_member, count_all, member_of, same_members}
@@ -14,7 +14,7 @@ use Rattle.guards3.proofs.GivenClasses.{corners_below}
 use Rattle.guards3.proofs.GivenNumbers.{given_below, given_twice}
 use Rattle.guards3.proofs.OneParting.{parts_of_list, some_triangle, together}
 use Rattle.guards3.proofs.ThreeClasses.{one_of_three}
-use Rattle.guards3.specs.Guards.{AreGuards, IsParting, IsRather, class_of, members, OneGuardsLaw}
+use Rattle.guards3.specs.Guards.{AreAmong, AreGuards, IsOfThree, IsParting, IsRather, class_of, members, OneGuardsLaw}
 
 -- of two pairs with different second numbers one comes before the other
 rather_of_not : (a b x y : ℕ) → ¬ (x ≡ y) → ¬ ((b < a) ⊎ ((b ≡ a) × (y < x))) → (a < b) ⊎ ((a ≡ b) × (x < y))
@@ -130,12 +130,48 @@ module _ (ring : Oriented) (tris : List Tri) (fits : Fits ring.corners tris) whe
         | inr not ↦ inr (subst (IsRather one) (sym is) (g.chosen d below not))
       ]
 
+  -- so they are the same
+  one_list : (one other : List ℕ) → AreGuards ring tris one → AreGuards ring tris other → one ≡ other
+  one_list one other g h = elim (same_or_rather one other g h) [
+    | inl same ↦ same
+    | inr first ↦ elim (same_or_rather other one h g) [
+      | inl same ↦ sym same
+      | inr second ↦ absurd (not_both_rather one other first second)
+    ]
+  ]
+
+-- ---- lists with the same triangles
+
+-- the ends of a side of a triangle with corners in three classes are in two
+apart_on_side : (classes : List ℕ) (t : Tri) (i j : ℕ) → IsOfThree classes t → HasSide t i j → class_of classes i ≢ class_of classes j
+apart_on_side classes t i j three (inl side) = λ same. three.a_b (ap (class_of classes) side.0 ∙ same ∙ sym (ap (class_of classes) side.1))
+apart_on_side classes t i j three (inr (inl side)) = λ same. three.b_c (ap (class_of classes) side.0 ∙ same ∙ sym (ap (class_of classes) side.1))
+apart_on_side classes t i j three (inr (inr side)) = λ same. three.c_a (ap (class_of classes) side.0 ∙ same ∙ sym (ap (class_of classes) side.1))
+
+module _ (tris others : List Tri) (among : AreAmong tris others) where
+  -- a parting by the second list is one by the first,
+  parting_among : (count : ℕ) (classes : List ℕ) → IsParting count others classes → IsParting count tris classes
+  parting_among count classes parting = record {
+    one_each = parting.one_each;
+    three = parting.three;
+    corners = λ k below.
+        let (l, in_list, sides) = among k below in
+        let apart = λ (i j : ℕ) (side : HasSide (tri_at tris k) i j).
+        apart_on_side classes (tri_at others l) i j (parting.corners l in_list) (sides i j side) in
+        record { a_b = apart _ _ (inl (refl, refl)); b_c = apart _ _ (inr (inl (refl, refl))); c_a = apart _ _ (inr (inr (refl, refl))) };
+  }
+
+  -- so the guards of the second are guards of the first
+  guards_among : (ring : Oriented) (guards : List ℕ) → AreGuards ring others guards → AreGuards ring tris guards
+  guards_among ring guards are = record {
+    classes = are.classes;
+    parting = parting_among (length ring.corners) are.classes are.parting;
+    class = are.class;
+    of_three = are.of_three;
+    are = are.are;
+    chosen = are.chosen;
+  }
+
 -- the law, as it is stated
 pub one_guards_law : OneGuardsLaw
-one_guards_law ring tris fits one other g h = elim (same_or_rather ring tris fits one other g h) [
-  | inl same ↦ same
-  | inr first ↦ elim (same_or_rather ring tris fits other one h g) [
-    | inl same ↦ sym same
-    | inr second ↦ absurd (not_both_rather one other first second)
-  ]
-]
+one_guards_law ring tris others fits among one other g h = one_list ring tris fits one other g (guards_among tris others among ring other h)

@@ -6,7 +6,7 @@ use Rattle.rings.specs.Inside.{IsIn}
 use Rattle.rings.specs.Ring.{vertex}
 use Rattle.rings.specs.Sees.{Sees}
 use Rattle.meshes.specs.Fits.{Fits}
-use Rattle.meshes.specs.Side.{tri_at}
+use Rattle.meshes.specs.Side.{HasSide, tri_at}
 use Rattle.meshes.specs.declared.tri.Tri.{Tri}
 use Rattle.ring_check.specs.Oriented.{Oriented, given_index}
 
@@ -47,13 +47,18 @@ pub record AreGuards (ring : Oriented) (tris : List Tri) (guards : List ℕ) : T
 abbrev pub SeeAll : List Point → List ℕ → Type 0
 SeeAll ring guards = (x : Triple) → IsPoint x → IsIn ring x → (g : ℕ) × Contains guards g × Sees ring (whole (vertex ring g)) x
 
+-- each triangle of the first list is one of the second, at any place and read from any of its corners: it has the same sides
+abbrev pub AreAmong : List Tri → List Tri → Type 0
+AreAmong tris others =
+    (k : ℕ) → k < length tris → (l : ℕ) × (l < length others) × ((i j : ℕ) → HasSide (tri_at tris k) i j → HasSide (tri_at others l) i j)
+
 -- the triangles of a mesh have just one such parting: two put the same vertices together
 abbrev pub OnePartingLaw : Type 0
 OnePartingLaw = (corners : List Point) (tris : List Tri) → Fits corners tris → (one other : List ℕ) → IsParting (length corners) tris one
     → IsParting (length corners) tris other → (i j : ℕ) → i < length corners → j < length corners
     → (class_of one i ≡ class_of one j) ↔ (class_of other i ≡ class_of other j)
 
--- and just one list of guards
+-- the set of the triangles determines the guards: two lists with the same triangles, in any order, have the same guards
 abbrev pub OneGuardsLaw : Type 0
-OneGuardsLaw = (ring : Oriented) (tris : List Tri) → Fits ring.corners tris → (one other : List ℕ) → AreGuards ring tris one
-    → AreGuards ring tris other → one ≡ other
+OneGuardsLaw = (ring : Oriented) (tris others : List Tri) → Fits ring.corners tris → AreAmong tris others → (one other : List ℕ)
+    → AreGuards ring tris one → AreGuards ring others other → one ≡ other

@@ -6,7 +6,7 @@ pub fn one_parting()
     ensures { OnePartingLaw }
 {}
 
-/// They determine the guards.
+/// The triangles of a mesh, in any order, determine the guards.
 pub fn one_guards()
     ensures { OneGuardsLaw }
 {}

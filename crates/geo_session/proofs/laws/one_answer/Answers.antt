@@ -1,4 +1,3 @@
-use Rattle.cut_tri.proofs.OneCut.{one_cut}
 use Rattle.guards3.proofs.OneGuards.{one_guards_law}
 use Rattle.pair_cut.proofs.PairOrder.{one_sights}
 use Rattle.geo_session.proofs.OneReply.{one_reply}
@@ -6,4 +5,4 @@ use Rattle.geo_session.proofs.OneAnswer.{one_answer}
 use Rattle.geo_session.proofs.laws.one_answer.Goals as goal
 
 pub returns : goal.returns
-returns c = one_answer (one_reply one_cut one_guards_law one_sights)
+returns c = one_answer (one_reply one_guards_law one_sights)

@@ -1,5 +1,5 @@
--- Each piece of a polygon is cut into triangles, and they fit it: by induction on its length, as the code of cut_tri cuts it.
-use Rattle.std.proofs.Common.{◌≡◌, ◌⊎◌, inl, inr, sym, ap, subst, ℕ, zero, suc, ◌+◌, ◌-◌, ◌<◌, ◌≤◌, ℤ, ◌<ℤ◌, List, [], ◌∷◌, ◌++◌, length, get_or}
+-- Each piece of a polygon is cut into triangles that fit it, by induction on its length.
+use Rattle.std.proofs.Common.{◌≡◌, ◌⊎◌, inl, inr, sym, ap, subst, ℕ, zero, suc, ◌+◌, ◌-◌, ◌<◌, ℤ, ◌<ℤ◌, List, [], ◌∷◌, ◌++◌, length, get_or}
 use Rattle.std.proofs.Common.{take, drop, below_more, arith}
 use Rattle.std.proofs.Math.Numerals.{suc-eq-add-one}
 use Rattle.std.proofs.lemmas.Bool.{cases_eq, cases_lt}
@@ -9,11 +9,9 @@ use Rattle.std.specs.List.{range_with_len}
 use Rattle.plane.proofs.Order.{before_irrefl, before_or_not, before_trans}
 use Rattle.plane.specs.Order.{IsBefore}
 use Rattle.plane.specs.Point.{Point, whole}
-use Rattle.rings.specs.Orientation.{IsCounterclockwise}
-use Rattle.rings.specs.Simple.{IsSimple}
 use Rattle.ring_laws.proofs.Triangles.{in_or_not}
 use Rattle.meshes.proofs.Joins.{fits_rotated}
-use Rattle.meshes.specs.Fits.{Fits, FitsPiece}
+use Rattle.meshes.specs.Fits.{FitsPiece}
 use Rattle.meshes.specs.declared.tri.Tri.{Tri}
 use Rattle.cut_tri.proofs.Candidates.{is_farthest}
 use Rattle.cut_tri.proofs.DiagonalCuts.{parts_cut}
@@ -22,7 +20,8 @@ use Rattle.cut_tri.proofs.Readings.{cut_of_rotated}
 use Rattle.cut_tri.proofs.RotatedCuts.{least_from, piece_from}
 use Rattle.cut_tri.proofs.WholePiece.{all_is_piece}
 use Rattle.cut_tri.specs.Corner.{IsFarther, IsFarthestBelow, candidate_at}
-use Rattle.cut_tri.specs.Cut.{IsCutInto, IsCutTriangulation, IsFarthest, IsPlaceInCorner, height_at}
+use Rattle.cut_tri.specs.Cut.{IsFarthest, IsPlaceInCorner, SomeCutTriangulationLaw, height_at}
+use Rattle.cut_tri.specs.Cutting.{IsCutInto}
 use Rattle.cut_tri.specs.Piece.{IsLeastBelow, IsPiece, piece_vertex, tri_at_first}
 
 -- ---- which of two vertices is farther
@@ -154,7 +153,7 @@ module _ (corners : List Point) (piece : List ℕ) where
 -- ---- cuts
 
 -- a piece is cut into some triangles, and they fit it
-abbrev pub HasCut : List Point → List ℕ → Type 0
+abbrev HasCut : List Point → List ℕ → Type 0
 HasCut corners piece = (cut : List Tri) × FitsPiece corners piece cut × IsCutInto corners piece cut
 
 -- all pieces with fewer than n vertices are
@@ -208,11 +207,10 @@ module _ (corners : List Point) where
   fewer_have_cuts zero piece below is = absurd (omega (arith, below))
   fewer_have_cuts (suc n) piece below is = from_fewer piece is (λ part less part_is. fewer_have_cuts n part (omega (arith, below, less)) part_is)
 
-  -- so each piece has a cut, whose triangles fit it,
-  pub some_cut : (piece : List ℕ) → IsPiece corners piece → (cut : List Tri) × FitsPiece corners piece cut × IsCutInto corners piece cut
-  some_cut piece is = fewer_have_cuts (length piece + 1) piece (omega arith) is
+  -- so each piece has a cut, whose triangles fit it
+  has_cut : (piece : List ℕ) → IsPiece corners piece → HasCut corners piece
+  has_cut piece is = fewer_have_cuts (length piece + 1) piece (omega arith) is
 
-  -- and so has a simple ring that runs counterclockwise
-  pub ring_cut : 3 ≤ length corners → IsSimple corners → IsCounterclockwise corners
-      → (cut : List Tri) × Fits corners cut × IsCutTriangulation corners cut
-  ring_cut some simple way = some_cut (range_with_len 0 (length corners)) (all_is_piece corners some simple way)
+-- and so has a simple polygon
+pub some_cut_triangulation : SomeCutTriangulationLaw
+some_cut_triangulation corners some simple way = has_cut corners (range_with_len 0 (length corners)) (all_is_piece corners some simple way)
