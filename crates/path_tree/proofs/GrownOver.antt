@@ -62,14 +62,31 @@ module _ (corners : List Point) (start : Point) (tris : List Tri) (i j d : ℕ) 
   third_named k m beyond reached =
       (there, named_by_number, before_third corners start tris k i j m d fits beyond f w h reached)
 
--- the funnel that is read at its number is its own
-pub entered_of_read : (corners : List Point) (start : Point) (tris : List Tri) (tree : NamedTree) → IsGrownFrom corners start tris tree
-    → (funnels : List (Option Listed)) → funnels ≡ tree.funnels → (k : ℕ) → k < length tris → (o : Option Listed) → o ≡ get_or funnels k o
-    → (f : Listed) → o ≡ Some f → IsEntered corners start tris k f
-entered_of_read corners start tris tree grown funnels same k below o read f some =
-    let inside : k < length funnels = omega (arith, below, grown.triangles, ap length same) in
-    let there : funnel_at tree k ≡ Some f = ap (λ fs. get_or fs k None) (sym same) ∙ sym (get_or_read funnels k o inside read None) ∙ some in
-    subst (KeepsFunnel corners start tris k) there (grown.funnels k below)
+-- A triangle without a funnel is the home.
+home_of_none : (corners : List Point) (start : Point) (tris : List Tri) (home k : ℕ) (o : Option Listed)
+    → KeepsFunnel corners start tris home k o → ((f : Listed) → o ≢ Some f) → k ≡ home
+home_of_none corners start tris home k None is none = is
+home_of_none corners start tris home k (Some f) kept none = absurd (none f refl)
+
+module _ (corners : List Point) (start : Point) (tris : List Tri) (tree : NamedTree) (grown : IsGrownFrom corners start tris tree)
+    (funnels : List (Option Listed)) (same : funnels ≡ tree.funnels) (k : ℕ) (below : k < length tris) (o : Option Listed)
+    (read : o ≡ get_or funnels k o) where
+  -- What is read for triangle k is what the tree keeps for it,
+  kept_of_read : KeepsFunnel corners start tris grown.home k o
+  kept_of_read =
+      let inside : k < length funnels = omega (arith, below, grown.triangles, ap length same) in
+      let there : funnel_at tree k ≡ o = ap (λ fs. get_or fs k None) (sym same) ∙ sym (get_or_read funnels k o inside read None) in
+      subst (KeepsFunnel corners start tris grown.home k) there (grown.funnels k below)
+
+  -- so a funnel is its own,
+  pub entered_of_read : (f : Listed) → o ≡ Some f → IsEntered corners start tris k f
+  entered_of_read f some = (subst (KeepsFunnel corners start tris grown.home k) some kept_of_read).1
+
+  -- and a triangle without one has the start in it
+  pub home_of_read : ((f : Listed) → o ≢ Some f) → IsInTri corners (tri_at tris k) (whole start)
+  home_of_read none =
+      let home = home_of_none corners start tris grown.home k o kept_of_read none in
+      subst (λ h. IsInTri corners (tri_at tris h) (whole start)) (sym home) grown.in_home
 
 module _ (corners : List Point) (start : Point) (tris : List Tri) (k : ℕ) (f : Listed) (e : IsEntered corners start tris k f) where
   -- its funnel has a point,
@@ -222,23 +239,29 @@ module _ (corners : List Point) (start : Point) (tris : List Tri) (order : List 
           ];
         }
 
-  -- A triangle keeps a funnel of the tree,
+  -- Each triangle but the first has its own funnel in the tree, and the first has none,
   keeps : (p : ℕ) → p < length order → (o : Option Listed) → KeepsFunnelTo corners start tris order p o
-      → KeepsFunnel corners start tris (at_place order p) o
-  keeps p below None home = subst (λ q. IsInTri corners (tri_at tris (at_place order q)) (whole start)) (sym home) from.home
-  keeps p below (Some f) w = record {
-    left = left_of tris order p;
-    right = right_of tris order p;
-    third = third_of tris order p;
-    beyond = beyond_at corners start tris order from p w.0 below;
-    diagonals = p;
-    few = omega (arith, below, from.outward.count, two_fewer corners tris from.fits);
-    funnel = w.1;
-  }
+      → KeepsFunnel corners start tris (at_place order 0) (at_place order p) o
+  keeps p below None home = ap (at_place order) home
+  keeps p below (Some f) w = (
+    λ same. let home = from.outward.once p 0 below from.some same in omega (arith, home, w.0),
+    record {
+      left = left_of tris order p;
+      right = right_of tris order p;
+      third = third_of tris order p;
+      beyond = beyond_at corners start tris order from p w.0 below;
+      diagonals = p;
+      few = omega (arith, below, from.outward.count, two_fewer corners tris from.fits);
+      funnel = w.1;
+    },
+  )
 
   -- and each vertex is a corner of some triangle: so at all places it has grown
   grown_over_all : (tree : NamedTree) → IsGrownOver corners start tris order (length order) tree → IsGrownFrom corners start tris tree
   grown_over_all tree grown = record {
+    home = at_place order 0;
+    in_list = from.outward.in_list 0 from.some;
+    in_home = from.home;
     vertices = grown.vertices;
     parents = λ i below.
         let (k, one) = one_at_edge corners tris from.fits i below in
@@ -248,11 +271,23 @@ module _ (corners : List Point) (start : Point) (tris : List Tri) (order : List 
     triangles = grown.triangles;
     funnels = λ k below.
         let (p, within, is) = from.outward.all k below in
-        subst (λ l. KeepsFunnel corners start tris l (funnel_at tree l)) is
+        subst (λ l. KeepsFunnel corners start tris (at_place order 0) l (funnel_at tree l)) is
         (keeps p within (funnel_at tree (at_place order p)) (grown.funnels p within));
   }
 
--- so one that has grown up to the last place of an order from a triangle with the start is grown from these corners
+-- At the first place there is no funnel,
+none_kept : (corners : List Point) (start : Point) (tris : List Tri) (order : List Outward) (o : Option Listed)
+    → KeepsFunnelTo corners start tris order 0 o → o ≡ None
+none_kept corners start tris order None home = refl
+none_kept corners start tris order (Some f) w = absurd (omega (arith, w.0))
+
+-- so a tree that has grown outward from the home has none for it
+pub no_funnel_at_home : (corners : List Point) (start : Point) (tris : List Tri) (home : ℕ) (order : List Outward) (p : ℕ) (tree : NamedTree)
+    → IsOutward tris home order → 0 < p → IsGrownOver corners start tris order p tree → funnel_at tree home ≡ None
+no_funnel_at_home corners start tris home order p tree outward later grown =
+    subst (λ k. funnel_at tree k ≡ None) outward.first (none_kept corners start tris order _ (grown.funnels 0 later))
+
+-- One that has grown up to the last place of an order from a triangle with the start is grown from these corners.
 pub grown_at_end : (corners : List Point) (start : Point) (tris : List Tri) (home : ℕ) (order : List Outward) (p end : ℕ) (tree : NamedTree)
     → Fits corners tris → home < length tris → IsInTri corners (tri_at tris home) (whole start) → IsOutward tris home order
     → end ≡ length order → end ≤ p → (1 ≤ end → p ≤ end) → IsGrownOver corners start tris order p tree

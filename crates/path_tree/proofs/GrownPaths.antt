@@ -15,7 +15,6 @@ use Rattle.rings.specs.Chain.{IsPath, point_at}
 use Rattle.rings.specs.From.{IsPredecessor}
 use Rattle.rings.specs.Inside.{IsIn}
 use Rattle.rings.specs.Ring.{origin, vertex}
-use Rattle.meshes.proofs.Sides.{two_fewer}
 use Rattle.meshes.proofs.Sight.{triangle_in_ring}
 use Rattle.meshes.specs.Fits.{Fits}
 use Rattle.meshes.specs.declared.tri.Tri.{Tri}
@@ -26,8 +25,7 @@ use Rattle.exact_plane.specs.Spot.{IsNamed, point_named}
 use Rattle.exact_plane.specs.declared.turns.Spot.{Spot}
 use Rattle.exact_plane.specs.declared.turns.Spot.TheVariants.{Corner, Goal, Start}
 use Rattle.plane.proofs.Lists.{few_numbers}
-use Rattle.shared_funnel.specs.Listed.{Listed}
-use Rattle.path_tree.specs.Grown.{IsGrownFrom, IsKept, Names, NamedTree, kept_point, IsFromNamed, KeepsFunnel, before_at, funnel_at}
+use Rattle.path_tree.specs.Grown.{IsGrownFrom, IsKept, Names, NamedTree, kept_point, IsFromNamed, before_at}
 use Rattle.path_tree.specs.Grown.{IsGrownTree}
 
 module _ (corners : List Point) (start : Point) (tris : List Tri) (tree : NamedTree) (grown : IsGrownFrom corners start tris tree) where
@@ -49,13 +47,6 @@ module _ (corners : List Point) (start : Point) (tris : List Tri) (tree : NamedT
   kept_goal name x goal names at_goal = let kept = kept_of_names name x names in kept.2 start ∙ sym (kept.2 goal) ∙ at_goal
 
 module _ (corners : List Point) (start : Point) (tris : List Tri) (fits : Fits corners tris) where
-  -- with what a triangle keeps the start is in the ring
-  start_of_kept : (k : ℕ) → k < length tris → (o : Option Listed) → KeepsFunnel corners start tris k o → IsIn corners (whole start)
-  start_of_kept k within None home = triangle_in_ring corners tris fits k within (whole start) (whole_is_point start) home
-  start_of_kept k within (Some f) entered =
-      let bent = entered.funnel.funnel.bent.chain in
-      subst (λ p. IsIn corners (whole p)) entered.funnel.begins (bent.chain.inside 0 bent.chain.some)
-
   -- the start is the path to itself,
   start_alone : IsIn corners (whole start) → IsPath corners start start (start ∷ [])
   start_alone = path_of_one corners (fitted_long corners tris fits) (fitted_simple corners tris fits) start
@@ -70,9 +61,7 @@ module _ (corners : List Point) (start : Point) (tris : List Tri) (fits : Fits c
   module _ (tree : NamedTree) (grown : IsGrownFrom corners start tris tree) where
     -- the start is in the ring,
     pub start_inside : IsIn corners (whole start)
-    start_inside =
-        let some : 0 < length tris = omega (arith, two_fewer corners tris fits, fitted_long corners tris fits) in
-        start_of_kept 0 some (funnel_at tree 0) (grown.funnels 0 some)
+    start_inside = triangle_in_ring corners tris fits grown.home grown.in_list (whole start) (whole_is_point start) grown.in_home
 
     -- and there is a path to each point with a name that is kept
     pub path_kept : (name : Spot) → IsKept tree name → (path : List Point) × IsPath corners start (kept_point corners start name) path

@@ -44,17 +44,21 @@ pub record IsEntered (corners : List Point) (start : Point) (tris : List Tri) (k
   pub few : diagonals + 3 ≤ length corners
   pub funnel : IsFunnelAt corners start left right diagonals f
 
--- each triangle has its funnel, but one with the start in it
-abbrev pub KeepsFunnel : List Point → Point → List Tri → ℕ → Option Listed → Type 0
-KeepsFunnel corners start tris k None = IsInTri corners (tri_at tris k) (whole start)
-KeepsFunnel corners start tris k (Some f) = IsEntered corners start tris k f
+-- triangle k has no funnel exactly where it is the home, and otherwise its own
+abbrev pub KeepsFunnel : List Point → Point → List Tri → ℕ → ℕ → Option Listed → Type 0
+KeepsFunnel corners start tris home k None = k ≡ home
+KeepsFunnel corners start tris home k (Some f) = (k ≢ home) × IsEntered corners start tris k f
 
--- the tree is grown from some corners, a start and triangles: it has what is before each vertex on its path
+-- the tree is grown from a start in a home triangle: it has what is before each vertex on its path, and a funnel for each triangle
+-- but the home, which alone has none
 pub record IsGrownFrom (corners : List Point) (start : Point) (tris : List Tri) (tree : NamedTree) : Type 0 where
   pub vertices : length tree.before ≡ length corners
   pub parents : (i : ℕ) → i < length corners → IsFromNamed corners start (vertex corners i) (before_at tree i)
   pub triangles : length tree.funnels ≡ length tris
-  pub funnels : (k : ℕ) → k < length tris → KeepsFunnel corners start tris k (funnel_at tree k)
+  pub home : ℕ
+  pub in_list : home < length tris
+  pub in_home : IsInTri corners (tri_at tris home) (whole start)
+  pub funnels : (k : ℕ) → k < length tris → KeepsFunnel corners start tris home k (funnel_at tree k)
 
 -- it is grown from some
 pub record IsGrownTree (tree : NamedTree) : Type 0 where

@@ -1,5 +1,5 @@
 ghost use Rattle.std.specs.List.{All};
-ghost use Rattle.std.specs.Prelude.{◌≡◌, ◌≢◌, ◌+◌, ◌*◌, ◌<◌, ◌≤◌, ◌++◌, ◌∷◌, [], List, IfOk, drop, length, reverse, take, vec_capacity};
+ghost use Rattle.std.specs.Prelude.{◌≡◌, ◌≢◌, ◌+◌, ◌*◌, ◌<◌, ◌≤◌, ◌++◌, ◌∷◌, [], List, IfOk, None, drop, length, reverse, take, vec_capacity};
 ghost use Rattle.plane.specs.Point.{Point, whole};
 ghost use Rattle.rings.specs.Chain.{IsPath};
 ghost use Rattle.rings.specs.From.{IsPredecessor};
@@ -10,7 +10,7 @@ ghost use Rattle.meshes.specs.declared.tri.Tri.{Tri};
 ghost use Rattle.shared_seq.specs.Digits.{binary_digits};
 ghost use Rattle.exact_plane.specs.declared.turns.Spot.TheVariants.{Goal};
 ghost use Rattle.exact_plane.specs.Names.{AppendsNames, named_points};
-ghost use Rattle.path_tree.specs.Grown.{IsEntered, IsFromNamed, IsGrownFrom, IsKept, Names, kept_point};
+ghost use Rattle.path_tree.specs.Grown.{IsEntered, IsFromNamed, IsGrownFrom, IsKept, Names, funnel_at, kept_point};
 
 use crate::growth::{Growth, straight};
 use exact_plane::{Memory, Spot, Steps, Turns};
@@ -42,8 +42,9 @@ impl Model for PathTree {
 }
 
 impl PathTree {
-    /// The tree of the board's start, which is in triangle `home`, over a mesh that fits the board's corners. It takes at most
-    /// 200 n b b steps, n the number of the corners and b that of its binary digits.
+    /// Returns the tree of the board's start, which is in triangle `home`, over a mesh that fits the board's corners. It keeps a
+    /// funnel for each triangle but `home`, which alone has none. It takes at most 200 n b b steps, n the number of the corners and
+    /// b that of its binary digits.
     pub fn build<T: Turns, L: Ledger>(
         alloc: Global,
         board: &T,
@@ -55,6 +56,7 @@ impl PathTree {
         requires home { home < length mesh.now }
         requires start { IsInTri (T.corners board.now) (tri_at mesh.now home) (whole (T.start board.now)) }
         ensures grown { IfOk result (IsGrownFrom (T.corners board.now) (T.start board.now) mesh.now) }
+        ensures home { IfOk result (λ tree. funnel_at tree home ≡ None) }
         ensures steps { let n = length (T.corners board.now) in let b = binary_digits n in steps.new ≤ steps.old + 200 * n * (b * b) }
     {
         let order = mesh.outward(alloc, home)?;

@@ -2,7 +2,7 @@ use Rattle.std.proofs.Common.{subst, ◌+◌, ◌≤◌, length, arith}
 use Rattle.meshes.proofs.Sides.{two_fewer}
 use Rattle.shared_seq.specs.Digits.{binary_digits}
 use Rattle.shared_funnel.proofs.StepCounts.{home_steps}
-use Rattle.path_tree.proofs.GrownOver.{grown_at_end}
+use Rattle.path_tree.proofs.GrownOver.{grown_at_end, no_funnel_at_home}
 use Rattle.path_tree.proofs.TreeSteps.{tree_steps}
 use Rattle.path_tree.proofs.tree.PathTree.build.Goals as goal
 use Rattle.path_tree.specs.Growing.{HasGrown, tree_so_far}
@@ -65,6 +65,12 @@ returns-clause-grown g c =
     c.len-p-end.result (tree_so_far c.loop-p.growth) c.requires.fits
     c.requires.home c.requires.start c.in_ok-order.ensures (omega (arith, c.len-p-end.ensures, c.in_ok-order.order.ok.0))
     c.loop-p-test.false c.loop-p.auto.p-end c.loop-p.invariant.grown.over
+
+pub returns-clause-home : goal.returns-clause-home
+returns-clause-home g c =
+    no_funnel_at_home (g.T.Turns.corners c.args.board.now) (g.T.Turns.start c.args.board.now) c.args.mesh.now c.args.home
+    c.in_ok-order.order.items c.loop-p.p (tree_so_far c.loop-p.growth) c.in_ok-order.ensures c.loop-p.invariant.later
+    c.loop-p.invariant.grown.over
 
 pub returns-clause-steps : goal.returns-clause-steps
 returns-clause-steps g c =

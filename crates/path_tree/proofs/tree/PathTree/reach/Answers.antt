@@ -1,11 +1,18 @@
 use Rattle.std.proofs.Common.{◌<◌, sym, ap, subst, ◌∙◌, length, arith}
 use Rattle.std.proofs.lemmas.Bool.{false≢true}
 use Rattle.meshes.proofs.Sides.{two_fewer}
-use Rattle.path_tree.proofs.GrownOver.{entered_of_read}
+use Rattle.path_tree.proofs.GrownOver.{entered_of_read, home_of_read}
 use Rattle.path_tree.proofs.TreeSteps.{reach_paid}
 use Rattle.path_tree.proofs.GrownPaths.{kept_goal, kept_of_names}
 use Rattle.path_tree.specs.Grown.{IsFromNamed}
 use Rattle.path_tree.proofs.tree.PathTree.reach.Goals as goal
+
+pub returns-in_default-clause-before : goal.returns-in_default-clause-before
+returns-in_default-clause-before g c =
+    let home = home_of_read (g.T.Turns.corners c.args.board.now) (g.T.Turns.start c.args.board.now) c.args.mesh.now c.args.self.now
+    c.requires.grown c.self.inside.funnels.items (ap (λ tree. tree.funnels) c.self.view_is) c.args.tri c.requires.in_list
+    c.index.result.now c.index.ensures c.in_default.not-Some in
+    c.straight.ensures.before c.args.mesh.now c.args.tri c.requires.fits c.requires.in_list home c.requires.goal
 
 pub returns-in_default-clause-steps : goal.returns-in_default-clause-steps
 returns-in_default-clause-steps g c =
