@@ -24,7 +24,9 @@ pub enum CutFault {
 }
 
 impl Region {
-    /// What is left of the region where all that is right of the line from `a` to `b` is cut away. It has at most one corner more.
+    /// Returns what is left of the region where all that is right of the line from `a` to `b` is cut away. It has at most one corner
+    /// more. For n corners the call takes O(n) steps: at most n + 2 d + 15 where n < 2^d, also if memory is refused. It takes at most
+    /// n - m + 2 d + 15 steps if m corners are left.
     pub fn cut<L: Ledger>(
         mut self,
         alloc: Global,
@@ -37,6 +39,9 @@ impl Region {
         ensures cut { IfOk result (λ rest. IsCornerList (IsUncut (whole a.now) (whole b.now) self.corners) rest.corners) }
         ensures few { IfOk result (λ rest. length rest.corners ≤ length self.corners + 1) }
         ensures memory { IfErr result (λ fault. fault ≡ CutFault.Memory self) }
+        ensures steps { (d : ℕ) → length self.corners < 2 ^ d → steps.new ≤ steps.old + length self.corners + 2 * d + 15 }
+        ensures steps_of_rest { IfOk result (λ rest. (d : ℕ) → length self.corners < 2 ^ d
+            → steps.new + length rest.corners ≤ steps.old + length self.corners + 2 * d + 15) }
     {
         match self.cut_away(alloc, a, b, steps) {
             Ok(()) => Ok(self),
