@@ -13,6 +13,10 @@ share 0 0 | 1 2 3 | 1 2 3
 share 0 0 | 1 2 3 + 4 5 | 1 2 3 4 5
 front 2 0 | 1 2 3 + 4 5 | 1 2
 rest 2 0 | 1 2 3 + 4 5 | 3 4 5
+split_front 2 0 | 1 2 3 | 1 2
+split_rest 2 0 | 1 2 3 | 3
+split_front 2 0 | 1 2 3 + 4 5 | 1 2
+split_rest 2 0 | 1 2 3 + 4 5 | 3 4 5
 take_then 2 9 | 1 2 3 + 4 5 | 1 2 9
 then_skip 2 9 | 1 2 3 + 4 5 | 9 3 4 5
 take_then 16 9 | 1 2 3 4 5 6 7 8 9 10 11 12 13 14 15 16 17 | 1 2 3 4 5 6 7 8 9 10 11 12 13 14 15 16 9
@@ -127,6 +131,14 @@ fn made_by<L: Ledger>(
         "share" => list.share().ok(),
         "front" => list.take(alloc, at, steps).ok(),
         "rest" => list.skip(alloc, at, steps).ok(),
+        "split_front" => {
+            let (front, _) = list.split_at(alloc, at, steps).ok()?;
+            Some(front)
+        }
+        "split_rest" => {
+            let (_, rest) = list.split_at(alloc, at, steps).ok()?;
+            Some(rest)
+        }
         "take_then" => list.take_then(alloc, at, value, steps).ok(),
         "then_skip" => list.then_skip(alloc, at, value, steps).ok(),
         "pair" if at > 0 => pair_of(alloc, list, at, steps),
