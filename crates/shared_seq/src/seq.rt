@@ -36,7 +36,7 @@ impl Model for SharedSeq {
 }
 
 impl SharedSeq {
-    /// The empty list.
+    /// The empty list. No command calls it: a funnel begins with `single`.
     pub fn empty() -> SharedSeq
         ensures { result ≡ [] }
     {
@@ -92,7 +92,7 @@ impl SharedSeq {
         Search::of(self.root())
     }
 
-    /// The left list followed by the right one.
+    /// The left list followed by the right one. No command calls it: a funnel grows by one value at an end.
     #[tactic(auto, using(crate::proofs::Digits::binary_digits_sum))]
     pub fn join<L: Ledger>(
         alloc: Global,
@@ -112,7 +112,7 @@ impl SharedSeq {
         Ok(SharedSeq::of(Some(tree::join(alloc, Side::Left, front, first, rest, steps)?)))
     }
 
-    /// The first i values, and the rest.
+    /// The first i values, and the rest. No command calls it: a funnel is cut by `take_then` or `then_skip`, which add the new corner.
     pub fn split_at<L: Ledger>(
         &self,
         alloc: Global,
@@ -127,7 +127,7 @@ impl SharedSeq {
         Ok((self.take(alloc, i, steps)?, self.skip(alloc, i, steps)?))
     }
 
-    /// The first i values.
+    /// The first i values. No command calls it: a funnel is cut by `take_then`.
     pub fn take<L: Ledger>(
         &self,
         alloc: Global,
@@ -148,7 +148,7 @@ impl SharedSeq {
         self.take_then(alloc, i - 1, last, steps)
     }
 
-    /// The list without its first i values.
+    /// The list without its first i values. No command calls it: a funnel is cut by `then_skip`.
     pub fn skip<L: Ledger>(
         &self,
         alloc: Global,
@@ -233,14 +233,15 @@ impl SharedSeq {
         self.insert_at(alloc, self.len, value, steps)
     }
 
-    /// The same list. It takes no memory, but a node can have so many owners that one more is refused.
+    /// The same list. It takes no memory, but a node can have so many owners that one more is refused. No command calls it: `take_then`,
+    /// `then_skip` and the pushes share nodes themselves.
     pub fn share(&self) -> Result<SharedSeq, Memory>
         ensures { IfOk result (λ list. list ≡ self.now) }
     {
         Ok(SharedSeq::of(node::shared(self.root())?))
     }
 
-    /// The list with this value at i.
+    /// The list with this value at i. No command calls it: funnels are made by `single`, the pushes, `take_then` and `then_skip`.
     pub fn set<L: Ledger>(
         &self,
         alloc: Global,
@@ -272,7 +273,7 @@ impl SharedSeq {
         Ok(SharedSeq::of(Some(tree::insert(alloc, self.root(), i, value, steps)?)))
     }
 
-    /// The list without the value at i.
+    /// The list without the value at i. No command calls it: `take_then` and `then_skip` drop the values that a funnel loses.
     pub fn remove_at<L: Ledger>(
         &self,
         alloc: Global,
