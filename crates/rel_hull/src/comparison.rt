@@ -10,7 +10,8 @@ use std::cmp::Ordering;
 use std::sync::ledger::Ledger;
 
 /// The turn from the path `ab` to the path `ac`, which begin at the same point: that of the two ways on from where they part. It takes
-/// at most a step for each point of either path, and 8 more.
+/// at most a step for each point of either path, and 8 more. No command calls it: the command `hull` compares paths of a `ChainTable`, and
+/// finds their common prefix by binary search.
 pub fn path_turn<L: Ledger>(ab: &[Pt], ac: &[Pt], steps: &mut Steps<L>) -> Direction
     requires some { 0 < length ab.now }
     requires others { 0 < length ac.now }
