@@ -35,7 +35,7 @@ pub enum Verdict {
 }
 
 /// The verdict on a list of points. For n vertices, n below 2 to the power d, it takes at most 2560 n n + 3000 n (d + 2) + 2 n + 8
-/// steps a point.
+/// steps a point. No command calls it: the command `check` calls `check_from` with a sight test of O(n) steps.
 pub fn check<L: Ledger>(
     alloc: Global,
     ring: &Ring,
