@@ -27,7 +27,8 @@ const FEW: usize = 8;
 
 /// Whether the segment from `a` to `b` lies in the ring: each rational point of it does. It may run along edges and
 /// touch them. For n vertices, n below 2 to the power d, it takes at most 2560 n n + 3000 n (d + 2) steps: each vertex can be where
-/// the segment meets the boundary, and it is placed between each two of these points.
+/// the segment meets the boundary, and it is placed between each two of these points. No command reaches it: the command `check` calls
+/// `holds_segment_within`, and finds the path between `a` and `b` if that returns `None`.
 pub fn holds_segment<L: Ledger>(
     alloc: Global,
     ring: &Ring,
