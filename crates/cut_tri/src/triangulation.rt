@@ -13,7 +13,8 @@ use std::sync::ledger::Ledger;
 use tri_mesh::Mesh;
 
 /// Returns the cut triangulation of a polygon: pieces are cut at their lexicographically least vertices, along one diagonal after
-/// another, until each is a triangle. For n vertices it takes at most 130 n n steps, also where it runs out of memory.
+/// another, until each is a triangle. For n vertices it takes at most 130 n n steps, also where it runs out of memory. No command
+/// calls it: `guards` cuts by `flip_tri::cut_triangles`, which flips the triangles of the sweep.
 pub fn triangulate<L: Ledger>(
     alloc: Global,
     ring: &Ring,
