@@ -14,7 +14,8 @@ use tri_mesh::Mesh;
 
 /// The guards of a polygon with a mesh that fits it, by their numbers in the list that the ring was made of, rising. The
 /// vertices are parted into three classes, of which each triangle has one corner each; the guards are the class with the
-/// fewest vertices, of equal ones that with the least number.
+/// fewest vertices, of equal ones that with the least number. No command calls it: the command `guards` calls `guards_of` with
+/// the triangles of `flip_tri::cut_triangles`.
 pub fn guards(alloc: Global, ring: &Ring, mesh: &Mesh) -> Result<Vec<u32>, Memory>
     requires { Fits ring.now.corners mesh.now }
     ensures guards { IfOk result (λ found. AreGuards ring.now mesh.now found.items) }
