@@ -26,7 +26,7 @@ pub enum CutFault {
 impl Region {
     /// Returns what is left of the region where all that is right of the line from `a` to `b` is cut away. It has at most one corner
     /// more. For n corners the call takes O(n) steps: at most n + 2 d + 15 where n < 2^d, also if memory is refused. It takes at most
-    /// n - m + 2 d + 15 steps if m corners are left.
+    /// n - m + 2 d + 15 steps if m corners are left. No command calls it: the command `kernel` cuts by `cut_away`.
     pub fn cut<L: Ledger>(
         mut self,
         alloc: Global,
