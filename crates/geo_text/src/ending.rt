@@ -1,5 +1,5 @@
 // Text that is written from its end to its front, as the digits of a number come out.
-ghost use Rattle.std.specs.Prelude.{◌≡◌, ◌+◌, ◌≤◌, ◌++◌, ◌∷◌, [], length, decimal, OnOk, OnErr};
+ghost use Rattle.std.specs.Prelude.{◌≡◌, ◌+◌, ◌<◌, ◌≤◌, ◌++◌, ◌∷◌, [], length, decimal, OnOk, OnErr, vec_capacity};
 ghost use Rattle.std.specs.Fmt.{signed_decimal};
 ghost use Rattle.geo_text.specs.Texts.{hom_text, index_text, pt_text, terms_text};
 ghost use Rattle.geo_text.specs.declared.ending.TheConstants.{ROOM};
@@ -119,7 +119,7 @@ impl Ending {
     pub fn put_pt<L: Ledger>(&mut self, p: &Pt, steps: &mut Steps<L>)
         requires { 42 + length self.old ≤ ROOM }
         ensures text { self.new ≡ pt_text p.now ++ self.old }
-        ensures longer { length self.new ≤ 42 + length self.old }
+        ensures longer { length self.new ≤ 18 + length self.old }
         ensures steps { steps.new ≡ steps.old + 64 }
     {
         let (x, y) = p.parts(steps);
@@ -168,11 +168,13 @@ impl Ending {
         }
     }
 
-    /// Appends it to a text. After want of memory that is as it was.
+    /// Appends the ending to `out`. Returns `Memory` only if `out` lacks room for it, and then keeps the bytes of `out`.
     #[inline]
     pub fn append_to(&self, out: &mut Vec<u8>) -> Result<(), Memory>
         ensures ok { OnOk result (out.new.items ≡ out.old.items ++ self.now) }
         ensures err { OnErr result (out.new.items ≡ out.old.items) }
+        ensures capacity { vec_capacity out.old ≤ vec_capacity out.new }
+        ensures full { OnErr result (vec_capacity out.old < length out.old.items + length self.now) }
     {
         out.extend_from_slice(&self.bytes[self.start..])?;
         Ok(())

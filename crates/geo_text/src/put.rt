@@ -1,5 +1,5 @@
 // What is written to an answer. After want of memory the answer is as it was.
-ghost use Rattle.std.specs.Prelude.{◌≡◌, ◌+◌, ◌≤◌, ◌++◌, codes, length, OnOk, OnErr};
+ghost use Rattle.std.specs.Prelude.{◌≡◌, ◌+◌, ◌<◌, ◌≤◌, ◌++◌, codes, length, OnOk, OnErr, vec_capacity};
 ghost use Rattle.geo_text.specs.Texts.{bad_text, hom_text, index_text, pt_text};
 
 use crate::command::Bad;
@@ -7,30 +7,39 @@ use crate::ending::Ending;
 use exact_plane::{Hom, Memory, Pt, Steps};
 use std::sync::ledger::Ledger;
 
-/// Appends a word.
+/// Appends a word. Returns `Memory` only if `out` lacks room for it.
 pub fn put_word(out: &mut Vec<u8>, word: &str) -> Result<(), Memory>
     ensures ok { OnOk result (out.new.items ≡ out.old.items ++ word.now) }
     ensures err { OnErr result (out.new.items ≡ out.old.items) }
+    ensures capacity { vec_capacity out.old ≤ vec_capacity out.new }
+    ensures full { OnErr result (vec_capacity out.old < length out.old.items + length word.now) }
 {
     out.extend_from_slice(word.as_bytes())?;
     Ok(())
 }
 
-/// Appends a comma and a number.
+/// Appends a comma and a number, which take at most 11 bytes. Returns `Memory` only if `out` lacks room for these.
 pub fn put_index(out: &mut Vec<u8>, index: u32) -> Result<(), Memory>
     ensures ok { OnOk result (out.new.items ≡ out.old.items ++ index_text index) }
     ensures err { OnErr result (out.new.items ≡ out.old.items) }
+    ensures capacity { vec_capacity out.old ≤ vec_capacity out.new }
+    ensures longer { OnOk result (length out.new.items ≤ length out.old.items + 11) }
+    ensures full { OnErr result (vec_capacity out.old < length out.old.items + 11) }
 {
     let mut text = Ending::new();
     text.put_index(index);
     text.append_to(out)
 }
 
-/// Appends a comma, x, a comma and y. It takes 64 steps.
+/// Appends a comma, x, a comma and y, which take at most 18 bytes. It takes 64 steps. Returns `Memory` only if `out` lacks room
+/// for these bytes.
 pub fn put_pt<L: Ledger>(out: &mut Vec<u8>, p: &Pt, steps: &mut Steps<L>) -> Result<(), Memory>
     ensures ok { OnOk result (out.new.items ≡ out.old.items ++ pt_text p.now) }
     ensures err { OnErr result (out.new.items ≡ out.old.items) }
     ensures steps { steps.new ≡ steps.old + 64 }
+    ensures capacity { vec_capacity out.old ≤ vec_capacity out.new }
+    ensures longer { OnOk result (length out.new.items ≤ length out.old.items + 18) }
+    ensures full { OnErr result (vec_capacity out.old < length out.old.items + 18) }
 {
     let mut text = Ending::new();
     text.put_pt(p, steps);
@@ -48,10 +57,12 @@ pub fn put_hom<L: Ledger>(out: &mut Vec<u8>, p: &Hom, steps: &mut Steps<L>) -> R
     text.append_to(out)
 }
 
-/// Appends the end of a line.
+/// Appends the end of a line. Returns `Memory` only if `out` lacks room for it.
 pub fn put_line_end(out: &mut Vec<u8>) -> Result<(), Memory>
     ensures ok { OnOk result (out.new.items ≡ out.old.items ++ codes "\n") }
     ensures err { OnErr result (out.new.items ≡ out.old.items) }
+    ensures capacity { vec_capacity out.old ≤ vec_capacity out.new }
+    ensures full { OnErr result (vec_capacity out.old < length out.old.items + 1) }
 {
     out.push(b'\n')?;
     Ok(())
