@@ -33,3 +33,8 @@ written_steps other = 0
 -- so many are enough for the lines of a reply
 abbrev pub WritesSteps : Reply → ℕ → ℕ → Type 0
 WritesSteps answered steps steps' = steps' ≤ steps + written_steps answered
+
+-- so many are enough where memory is refused: the room for the line of a path is reserved before its first point is read
+abbrev pub refused_steps : Reply → ℕ
+refused_steps (reply.Path points) = 0
+refused_steps other = written_steps other

@@ -1,10 +1,10 @@
 // The lines of replies. Want of memory may leave the front of a line, which `put_reply` takes away.
-ghost use Rattle.std.specs.Prelude.{◌≡◌, ◌+◌, ◌*◌, ◌≤◌, ◌<◌, ◌^◌, ◌++◌, codes, flat_map, length, take, OnOk, OnErr};
+ghost use Rattle.std.specs.Prelude.{◌≡◌, ◌+◌, ◌*◌, ◌≤◌, ◌<◌, ◌^◌, ◌++◌, codes, flat_map, length, take, vec_capacity, OnOk, OnErr};
 ghost use Rattle.geo_text.specs.Texts.{index_text, pt_text};
 ghost use Rattle.geo_text.specs.declared.ending.TheConstants.{ROOM};
 ghost use Rattle.geo_reply.specs.ReplyText.{before_text, broken_text, corner_text, count_text, from_text, froms_text, lines_text, numbers_text};
 ghost use Rattle.geo_reply.specs.ReplyText.{part_text, place_text, points_text, reply_text, side_text, sight_text, verdict_text};
-ghost use Rattle.geo_reply.specs.Written.{WritesSteps, corner_steps, part_steps, side_steps};
+ghost use Rattle.geo_reply.specs.Written.{WritesSteps, corner_steps, part_steps, refused_steps, side_steps};
 
 use crate::items::put_items;
 use crate::reply::{Before, Reply, Side};
@@ -16,7 +16,8 @@ use std::sync::ledger::Ledger;
 use taut_check::Verdict;
 
 /// Appends the lines of a reply. It takes at most 64 steps for each point of a path, of a side of a hull or of a kernel, and 128 for
-/// each part of a view. After want of memory `out` is as it was.
+/// each part of a view. If memory is refused, it keeps the bytes of `out`, and a path takes no step: the room for its whole line is
+/// reserved before its first point is read.
 pub fn put_reply<L: Ledger>(
     out: &mut Vec<u8>,
     reply: &Reply,
@@ -25,6 +26,7 @@ pub fn put_reply<L: Ledger>(
     ensures ok { OnOk result (out.new.items ≡ out.old.items ++ reply_text reply.now) }
     ensures same { OnErr result (out.new.items ≡ out.old.items) }
     ensures steps { WritesSteps reply.now steps.old steps.new }
+    ensures memory { OnErr result (steps.new ≤ steps.old + refused_steps reply.now) }
 {
     let start = out.len();
     let put = put_lines(out, reply, steps);
@@ -43,6 +45,7 @@ fn put_lines<L: Ledger>(
     ensures ok { OnOk result (out.new.items ≡ out.old.items ++ reply_text reply.now) }
     ensures front { OnErr result (take (length out.old.items) out.new.items ≡ out.old.items) }
     ensures steps { WritesSteps reply.now steps.old steps.new }
+    ensures memory { OnErr result (steps.new ≤ steps.old + refused_steps reply.now) }
 {
     match reply {
         Reply::Number(word, number) => put_count(out, word.text(), *number),
@@ -129,18 +132,22 @@ fn put_numbers(out: &mut Vec<u8>, word: &str, numbers: &[u32]) -> Result<(), Mem
     put_line_end(out)
 }
 
-// Appends the line of a path. It takes at most 64 steps a point.
+// Appends the line of a path. It takes at most 64 steps a point, and none if memory is refused.
 fn put_path<L: Ledger>(out: &mut Vec<u8>, points: &[Pt], steps: &mut Steps<L>) -> Result<(), Memory>
     requires { length points.now < 2 ^ 32 }
     ensures ok { OnOk result (out.new.items ≡ out.old.items ++ points_text (codes "path") points.now) }
     ensures front { OnErr result (take (length out.old.items) out.new.items ≡ out.old.items) }
     ensures steps { steps.new ≤ steps.old + 64 * length points.now }
+    ensures memory { OnErr result (steps.new ≡ steps.old) }
 {
+    // The word takes 4 bytes, the count at most 11, each point at most 18 and the end of the line 1.
+    out.reserve(18 * points.len() + 16)?;
     put_word(out, "path")?;
     put_points(out, points, steps)
 }
 
-// Appends how many points there are, each of them, and the end of the line.
+// Appends how many points there are, each of them, and the end of the line. It succeeds if `out` has room for 18 bytes a point and
+// 12 more.
 fn put_points<L: Ledger>(
     out: &mut Vec<u8>,
     points: &[Pt],
@@ -150,6 +157,7 @@ fn put_points<L: Ledger>(
     ensures ok { OnOk result (out.new.items ≡ out.old.items ++ (index_text (length points.now) ++ flat_map pt_text points.now ++ codes "\n")) }
     ensures front { OnErr result (take (length out.old.items) out.new.items ≡ out.old.items) }
     ensures steps { steps.new ≤ steps.old + 64 * length points.now }
+    ensures full { OnErr result (vec_capacity out.old < length out.old.items + (12 + 18 * length points.now)) }
 {
     put_index(out, points.len() as u32)?;
     for point in points {

@@ -22,6 +22,8 @@ pub loop-point-init : goal.loop-point-init
 loop-point-init g c = record {
   put = flat_none pt_text c.args.points.now c.args.out.now.items (index_text (length c.args.points.now)) c.put_index.new.out.items c.in_ok-put_index.ensures.ok;
   few = omega arith;
+  room = c.put_index.ensures.capacity;
+  long = omega (arith, c.in_ok-put_index.ensures.longer);
 }
 
 pub loop-point-preserved : goal.loop-point-preserved
@@ -30,6 +32,8 @@ loop-point-preserved g c = record {
       c.loop-point.out.items c.loop-point.invariant.put c.point-item.result c.put_pt.new.out.items c.loop-point-test.true c.point-item.is
       c.in_ok-put_pt.ensures.ok;
   few = omega (arith, c.loop-point.invariant.few, c.in_ok-put_pt.ensures.steps);
+  room = omega (arith, c.loop-point.invariant.room, c.put_pt.ensures.capacity);
+  long = omega (arith, c.loop-point.invariant.long, c.in_ok-put_pt.ensures.longer);
 }
 
 pub returns-clause-ok : goal.returns-clause-ok
