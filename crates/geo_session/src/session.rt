@@ -7,7 +7,7 @@ ghost use Rattle.geo_text.specs.Version.{by_version};
 ghost use Rattle.shared_seq.specs.Digits.{binary_digits};
 ghost use Rattle.geo_session.specs.Answer.{AppendsAnswer};
 ghost use Rattle.geo_session.specs.Asking.{IsWrittenPaced};
-ghost use Rattle.geo_session.specs.Paced.{IsPaced, TakesPathSteps, TakesReplySteps, TakesSteps, path_pace, reach_pace};
+ghost use Rattle.geo_session.specs.Paced.{IsPaced, TakesPathSteps, TakesReplySteps, TakesSteps, inside_steps, path_pace, reach_pace};
 ghost use Rattle.geo_session.specs.Path.{path_of};
 ghost use Rattle.geo_session.specs.Prepared.{IsPreparedAfter, first_seen, pair_pace, table_steps};
 ghost use Rattle.geo_session.specs.Reply.{IsFound, IsReply, state_after};
@@ -79,9 +79,10 @@ impl Session {
         }
     }
 
-    /// Where a point lies in the polygon, or the refusal where there is none.
+    /// Returns where a point lies in the polygon, or the refusal if there is none. With n vertices it takes at most 1280 n + 65 steps.
     pub fn place<L: Ledger>(&self, point: &Pt, steps: &mut Steps<L>) -> Result<Position, Bad>
-        ensures { IsFound self.now.state (Command.Inside point.now) Reply.Place result }
+        ensures answer { IsFound self.now.state (Command.Inside point.now) Reply.Place result }
+        ensures steps { steps.new ≤ steps.old + inside_steps (size_of self.now.state.kept) }
     {
         match &self.held {
             Some(held) => Ok(held.place(point, steps)),
