@@ -1,16 +1,11 @@
 -- How many steps the lines of a reply take. This project's own.
 use Rattle.std.specs.List.{sum_by}
-use Rattle.std.specs.Prelude.{ℕ, ◌+◌, ◌*◌, ◌≤◌, List, [], length}
-use Rattle.plane.specs.Point.{Point, Triple}
+use Rattle.std.specs.Prelude.{ℕ, ◌+◌, ◌*◌, ◌≤◌, length}
+use Rattle.plane.specs.Point.{Triple}
 use Rattle.rings.specs.Visible.{Part}
 use Rattle.geo_reply.specs.declared.reply.Reply.{Reply}
 use Rattle.geo_reply.specs.declared.reply.Reply.TheVariants as reply
 use Rattle.geo_reply.specs.declared.reply.Side.{Side}
-
--- the points of a reply that is a path
-abbrev pub points_of_path : Reply → List Point
-points_of_path (reply.Path points) = points
-points_of_path other = []
 
 -- 64 for each point: for a corner of a kernel, for the ends of a part, and for a side of a hull
 abbrev pub corner_steps : Triple → ℕ

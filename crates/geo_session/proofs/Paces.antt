@@ -1,8 +1,8 @@
 -- The bounds on steps: of replies, and of their lines.
-use Rattle.std.proofs.Common.{◌≡◌, ◌∙◌, inl, inr, refl, sym, ap, subst, true, false, ℕ, ℤ, suc, ◌+◌, ◌-◌, ◌*◌, ◌^◌, ◌<◌, ◌≤◌, List, [], ◌∷◌, ◌++◌, length, Result, arith}
+use Rattle.std.proofs.Common.{◌≡◌, ◌∙◌, inl, inr, refl, ap, subst, true, false, ℕ, ℤ, suc, ◌+◌, ◌-◌, ◌*◌, ◌^◌, ◌<◌, ◌≤◌, List, [], ◌∷◌, ◌++◌, length, Result, arith}
 use Rattle.std.proofs.Math.Nat.{pow-suc}
-use Rattle.std.specs.Prelude.{OnOk, Option, Some, None}
-use Rattle.std.proofs.lemmas.Result.{on_ok_weaker}
+use Rattle.std.specs.Prelude.{OnErr, OnOk, Option, Some, None}
+use Rattle.std.proofs.lemmas.Result.{on_err_weaker, on_ok_weaker}
 use Rattle.plane.specs.Point.{Point}
 use Rattle.ring_check.proofs.Oriented.{length-oriented}
 use Rattle.ring_check.specs.Oriented.{Oriented, oriented}
@@ -14,21 +14,21 @@ use Rattle.geo_text.specs.declared.command.Bad.TheVariants as bad
 use Rattle.geo_text.specs.declared.command.Command.{Command}
 use Rattle.geo_text.specs.declared.command.Command.TheVariants as command
 use Rattle.geo_text.specs.declared.version.Version.{Version}
-use Rattle.geo_reply.proofs.Fronts.{no_more, ok_since}
+use Rattle.geo_reply.proofs.Fronts.{err_since, no_more, ok_since}
 use Rattle.geo_reply.specs.ReplyText.{reply_text}
-use Rattle.geo_reply.specs.Written.{WritesSteps, points_of_path}
+use Rattle.geo_reply.specs.Written.{WritesSteps, refused_steps}
 use Rattle.geo_reply.specs.declared.reply.Reply.{Reply}
 use Rattle.geo_reply.specs.declared.reply.Reply.TheVariants as reply
 use Rattle.geo_session.proofs.GivenSize.{size_held}
-use Rattle.geo_session.proofs.OneReply.{one_pair_of, one_path_of, one_reach_of, quiet_sights, quiet_tree, same_written}
-use Rattle.geo_session.specs.Asking.{IsWrittenPaced, TakesBoth, seen_of}
+use Rattle.geo_session.proofs.OneReply.{quiet_sights, quiet_tree, same_written}
+use Rattle.geo_session.specs.Asking.{IsWrittenPaced, TakesEither, seen_of}
 use Rattle.geo_session.specs.Held.{HeldRing, kept_of}
 use Rattle.geo_session.specs.Paced.{IsPaced, TakesSteps, kernel_steps, mesh_steps, most_steps, path_pace, polygon_steps, reach_pace}
 use Rattle.geo_session.specs.Pairs.{IsPairReply, first_off, joined, second_off, too_many}
 use Rattle.geo_session.specs.Path.{IsReachReply, TellsPath}
 use Rattle.geo_session.specs.Prepared.{Seen, pair_pace, table_steps}
 use Rattle.geo_session.specs.Reply.{IsReply, IsReplyOf}
-use Rattle.geo_session.specs.State.{Kept, State, size_of}
+use Rattle.geo_session.specs.State.{Kept, size_of}
 use Rattle.geo_session.specs.Told.{RepliesWithin, outside, within}
 
 -- ---- replies
@@ -131,28 +131,24 @@ pair_of_kept : (version : Version) (kept : Option Kept) (i j : ℤ) (answered : 
 pair_of_kept version None i j answered e = refusal bad.NoPolygon e
 pair_of_kept version (Some kept) i j answered h = paired_path version kept.ring i j answered h
 
--- the lines of a path or a refusal take few steps, by what was written and by the reply
-module _ {E : Type 0} (before : State) (asked : Command) (most : ℕ) (put : Result (Unit {0}) E) (out out' : List ℕ) (steps told done : ℕ)
-    (few : told ≤ steps + most) where
-  takes_both : (answered : Reply) → IsPathOrRefused answered → ((other : Reply) → IsReply before asked other → answered ≡ other)
-      → WritesSteps answered told done → OnOk put (out' ≡ out ++ reply_text answered) → TakesBoth before asked most put out out' steps done
-  takes_both answered (path points is) single more written =
+-- the lines of a path or a refusal take few steps, by what was appended, and none where memory is refused
+module _ {E : Type 0} (most : ℕ) (put : Result (Unit {0}) E) (out out' : List ℕ) (steps told done : ℕ) (few : told ≤ steps + most) where
+  takes_either : (answered : Reply) → IsPathOrRefused answered → WritesSteps answered told done → OnOk put (out' ≡ out ++ reply_text answered)
+      → OnErr put (done ≤ told + refused_steps answered) → TakesEither most put out out' steps done
+  takes_either answered (path points is) more written refused =
       let wrote : done ≤ told + 64 * length points = subst (λ (r : Reply). WritesSteps r told done) is more in (
         on_ok_weaker put (λ line. record { points = points; printed = inl (line ∙ ap (λ (r : Reply). out ++ reply_text r) is); bound = omega (arith, few, wrote) }) written,
-        λ other h. subst (λ (r : Reply). done ≤ steps + most + 64 * length (points_of_path r)) (sym is ∙ single other h) (omega (arith, few, wrote)),
+        on_err_weaker put (λ none. let same : done ≤ told + 0 = subst (λ (r : Reply). done ≤ told + refused_steps r) is none in omega (arith, few, same)) refused,
       )
-  takes_both answered (refusal fault is) single more written =
-      let wrote : done ≤ told + 64 * 0 = subst (λ (r : Reply). WritesSteps r told done) is more in (
+  takes_either answered (refusal fault is) more written refused =
+      let wrote : done ≤ told + 0 = subst (λ (r : Reply). WritesSteps r told done) is more in (
         ok_since put (record { points = []; printed = inr refl; bound = omega (arith, few, wrote) }),
-        λ other h. subst (λ (r : Reply). done ≤ steps + most + 64 * length (points_of_path r)) (sym is ∙ single other h) (omega (arith, few, wrote)),
+        err_since put (omega (arith, few, wrote)),
       )
 
-  -- and where there are none they take none
-  pub takes_none : done ≡ told → (put_fails : OnOk put ⊥) → TakesBoth before asked most put out out' steps done
-  takes_none same fails = (
-    on_ok_weaker put (λ none. absurd none) fails,
-    λ other h. omega (arith, few, same),
-  )
+  -- and where no reply was found they take none
+  pub takes_none : done ≡ told → (put_fails : OnOk put ⊥) → TakesEither most put out out' steps done
+  takes_none same fails = (on_ok_weaker put (λ none. absurd none) fails, err_since put (omega (arith, few, same)))
 
 -- the lines of a reply are added to it, also where want of memory cuts them off
 module _ (seen : Seen) (asked : Command) (steps told done : ℕ) (paced : IsPaced seen asked steps told) where
@@ -165,28 +161,26 @@ module _ (seen : Seen) (asked : Command) (steps told done : ℕ) (paced : IsPace
 module _ {E : Type 0} (seen : Seen) (put : Result (Unit {0}) E) (out out' : List ℕ) (steps told done : ℕ) where
   -- so a command is paced with its lines,
   pub written_paced : (asked : Command) (answered : Reply) → IsReply seen.state asked answered → IsPaced seen asked steps told
-      → WritesSteps answered told done → OnOk put (out' ≡ out ++ reply_text answered) → IsWrittenPaced seen asked put out out' steps done
-  written_paced (command.Path s t) answered h paced more written =
-      takes_both seen.state (command.Path s t) _ put out out' steps told done paced answered
-      (path_of_kept seen.state.version seen.state.kept s t answered h) (λ other g. one_path_of seen.state s t answered other h g) more written
-  written_paced (command.Tree s) answered h paced more written =
+      → WritesSteps answered told done → OnOk put (out' ≡ out ++ reply_text answered) → OnErr put (done ≤ told + refused_steps answered)
+      → IsWrittenPaced seen asked put out out' steps done
+  written_paced (command.Path s t) answered h paced more written refused =
+      takes_either _ put out out' steps told done paced answered (path_of_kept seen.state.version seen.state.kept s t answered h) more written refused
+  written_paced (command.Tree s) answered h paced more written refused =
       let none = quiet_tree seen.state.version seen.state.kept s answered h in omega (arith, paced, more, none)
-  written_paced (command.Reach t) answered h paced more written =
-      takes_both seen.state (command.Reach t) _ put out out' steps told done paced answered
-      (reach_of_kept seen.state.version seen.state.kept t answered h) (λ other g. one_reach_of seen.state t answered other h g) more written
-  written_paced (command.Pair i j) answered h paced more written =
-      takes_both seen.state (command.Pair i j) _ put out out' steps told done paced answered
-      (pair_of_kept seen.state.version seen.state.kept i j answered h) (λ other g. one_pair_of seen.state i j answered other h g) more written
-  written_paced command.Sights answered h paced more written =
+  written_paced (command.Reach t) answered h paced more written refused =
+      takes_either _ put out out' steps told done paced answered (reach_of_kept seen.state.version seen.state.kept t answered h) more written refused
+  written_paced (command.Pair i j) answered h paced more written refused =
+      takes_either _ put out out' steps told done paced answered (pair_of_kept seen.state.version seen.state.kept i j answered h) more written refused
+  written_paced command.Sights answered h paced more written refused =
       let none = quiet_sights seen.state.version seen.state.kept answered h in omega (arith, paced, more, none)
-  written_paced _ answered h paced more written = tt
+  written_paced _ answered h paced more written refused = tt
 
   -- also where no reply was found
   pub unwritten_paced : (asked : Command) → IsPaced seen asked steps told → done ≡ told → OnOk put ⊥ → IsWrittenPaced seen asked put out out' steps done
-  unwritten_paced (command.Path s t) paced same fails = takes_none seen.state (command.Path s t) _ put out out' steps told done paced same fails
+  unwritten_paced (command.Path s t) paced same fails = takes_none _ put out out' steps told done paced same fails
   unwritten_paced (command.Tree s) paced same fails = omega (arith, paced, same)
-  unwritten_paced (command.Reach t) paced same fails = takes_none seen.state (command.Reach t) _ put out out' steps told done paced same fails
-  unwritten_paced (command.Pair i j) paced same fails = takes_none seen.state (command.Pair i j) _ put out out' steps told done paced same fails
+  unwritten_paced (command.Reach t) paced same fails = takes_none _ put out out' steps told done paced same fails
+  unwritten_paced (command.Pair i j) paced same fails = takes_none _ put out out' steps told done paced same fails
   unwritten_paced command.Sights paced same fails = omega (arith, paced, same)
   unwritten_paced _ paced same fails = tt
 
@@ -195,20 +189,20 @@ module _ {E : Type 0} (seen : Seen) (put : Result (Unit {0}) E) (out out' : List
 module _ {E : Type 0} (seen : Seen) (asked : Command) (put : Result (Unit {0}) E) (out out' : List ℕ) (steps done : ℕ)
     (paced : IsWrittenPaced seen asked put out out' steps done) where
   pub path_clause : (s t : Point) → asked ≡ command.Path s t
-      → TakesBoth seen.state asked (path_pace seen.state.version * size_of seen.state.kept) put out out' steps done
-  path_clause s t is = rw is (rw is at paced)
+      → TakesEither (path_pace seen.state.version * size_of seen.state.kept) put out out' steps done
+  path_clause s t is = rw is at paced
 
   pub tree_clause : (s : Point) → asked ≡ command.Tree s → let n = size_of seen.state.kept in let b = binary_digits n in
       done ≤ steps + (3 * n + 200 * n * (b * b))
   tree_clause s is = rw is at paced
 
   pub reach_clause : (t : Point) → asked ≡ command.Reach t → let n = size_of seen.state.kept in let b = binary_digits n in
-      TakesBoth seen.state asked (reach_pace seen.state.version * n + 24 * (b * b)) put out out' steps done
-  reach_clause t is = rw is (rw is at paced)
+      TakesEither (reach_pace seen.state.version * n + 24 * (b * b)) put out out' steps done
+  reach_clause t is = rw is at paced
 
-  pub pair_clause : (i j : ℤ) → asked ≡ command.Pair i j → let n = size_of seen.state.kept in
-      TakesBoth seen.state asked (table_steps seen + pair_pace seen.state.version * n) put out out' steps done
-  pair_clause i j is = rw is (rw is at paced)
+  pub pair_clause : (i j : ℤ) → asked ≡ command.Pair i j
+      → TakesEither (table_steps seen + pair_pace seen.state.version * size_of seen.state.kept) put out out' steps done
+  pair_clause i j is = rw is at paced
 
   pub sights_clause : asked ≡ command.Sights → done ≤ steps + table_steps seen
   sights_clause is = rw is at paced

@@ -1,5 +1,5 @@
 -- What a command changes, and how its reply and its steps are known before anything is written. No public clause cites this module.
-use Rattle.std.specs.Prelude.{◌≡◌, ◌⊎◌, ℕ, ℤ, ◌+◌, ◌*◌, ◌≤◌, true, List, OnOk, Option, None, Some, Result, Ok, Err}
+use Rattle.std.specs.Prelude.{◌≡◌, ◌⊎◌, ℕ, ℤ, ◌+◌, ◌*◌, ◌≤◌, true, List, OnErr, OnOk, Option, None, Some, Result, Ok, Err}
 use Rattle.plane.specs.Point.{Point}
 use Rattle.geo_text.specs.declared.command.Bad.{Bad}
 use Rattle.geo_text.specs.declared.command.Bad.TheVariants as bad
@@ -10,11 +10,11 @@ use Rattle.geo_text.specs.declared.version.Version.TheVariants as version
 use Rattle.shared_seq.specs.Digits.{binary_digits}
 use Rattle.pair_cut.specs.Pairs.{IsMadeFor}
 use Rattle.geo_session.specs.Held.{HeldRing, IsTreeOf, kept_of, prepared_of}
-use Rattle.geo_session.specs.Paced.{TakesPathSteps, TakesReplySteps, path_pace, reach_pace}
+use Rattle.geo_session.specs.Paced.{TakesPathSteps, path_pace, reach_pace}
 use Rattle.geo_session.specs.Pairs.{IsIndex, IsSmall, IsVertexNumber}
 use Rattle.geo_session.specs.Prepared.{IsPreparedAfter, Seen, pair_pace, table_steps}
 use Rattle.geo_session.specs.Reply.{IsReply, state_after}
-use Rattle.geo_session.specs.State.{State, size_of}
+use Rattle.geo_session.specs.State.{size_of}
 use Rattle.geo_session.specs.declared.ask.Asked.{Asked}
 use Rattle.geo_session.specs.declared.ask.Change.{Change}
 use Rattle.geo_session.specs.declared.ask.Change.TheVariants as change
@@ -73,22 +73,20 @@ AreAsked ring i j (Err fault) = ((¬ IsSmall ring) × (fault ≡ bad.Large))
     ⊎ (IsSmall ring × (¬ IsIndex ring i) × (fault ≡ bad.Index 1))
     ⊎ (IsSmall ring × IsIndex ring i × (¬ IsIndex ring j) × (fault ≡ bad.Index 2))
 
--- the bounds of a path, by what was written and by the reply
-abbrev pub TakesBoth : {E : Type 0} → State → Command → ℕ → Result (Unit {0}) E → List ℕ → List ℕ → ℕ → ℕ → Type 0
-TakesBoth before asked most put out out' steps steps' =
-    OnOk put (TakesPathSteps most out out' steps steps') × TakesReplySteps before asked most steps steps'
+-- the bounds of a path: after Ok by what was appended, and after want of memory without any of its points
+abbrev pub TakesEither : {E : Type 0} → ℕ → Result (Unit {0}) E → List ℕ → List ℕ → ℕ → ℕ → Type 0
+TakesEither most put out out' steps steps' = OnOk put (TakesPathSteps most out out' steps steps') × OnErr put (steps' ≤ steps + most)
 
 -- the steps of a command with its lines, by cases
 abbrev pub IsWrittenPaced : {E : Type 0} → Seen → Command → Result (Unit {0}) E → List ℕ → List ℕ → ℕ → ℕ → Type 0
 IsWrittenPaced seen (command.Path s t) put out out' steps steps' =
-    TakesBoth seen.state (command.Path s t) (path_pace seen.state.version * size_of seen.state.kept) put out out' steps steps'
+    TakesEither (path_pace seen.state.version * size_of seen.state.kept) put out out' steps steps'
 IsWrittenPaced seen (command.Tree s) put out out' steps steps' =
     let n = size_of seen.state.kept in let b = binary_digits n in steps' ≤ steps + (3 * n + 200 * n * (b * b))
 IsWrittenPaced seen (command.Reach t) put out out' steps steps' =
     let n = size_of seen.state.kept in let b = binary_digits n in
-    TakesBoth seen.state (command.Reach t) (reach_pace seen.state.version * n + 24 * (b * b)) put out out' steps steps'
+    TakesEither (reach_pace seen.state.version * n + 24 * (b * b)) put out out' steps steps'
 IsWrittenPaced seen (command.Pair i j) put out out' steps steps' =
-    let n = size_of seen.state.kept in
-    TakesBoth seen.state (command.Pair i j) (table_steps seen + pair_pace seen.state.version * n) put out out' steps steps'
+    TakesEither (table_steps seen + pair_pace seen.state.version * size_of seen.state.kept) put out out' steps steps'
 IsWrittenPaced seen command.Sights put out out' steps steps' = steps' ≤ steps + table_steps seen
 IsWrittenPaced seen other put out out' steps steps' = Unit {0}

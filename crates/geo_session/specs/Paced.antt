@@ -9,8 +9,8 @@ use Rattle.shared_seq.specs.Digits.{binary_digits}
 use Rattle.geo_session.specs.Prepared.{Seen, pair_pace, table_steps}
 use Rattle.geo_session.specs.Reply.{IsReply}
 use Rattle.geo_reply.specs.ReplyText.{path_text}
-use Rattle.geo_reply.specs.Written.{points_of_path, written_steps}
-use Rattle.geo_session.specs.State.{State, size_of}
+use Rattle.geo_reply.specs.Written.{written_steps}
+use Rattle.geo_session.specs.State.{size_of}
 use Rattle.geo_reply.specs.declared.reply.Reply.{Reply}
 
 -- so many steps a vertex are enough to tell a path from one point to another, beside those of its points,
@@ -89,8 +89,3 @@ pub record TakesPathSteps (most : ℕ) (out out' : List ℕ) (steps steps' : ℕ
   pub points : List Point
   pub printed : (out' ≡ out ++ path_text points) ⊎ (points ≡ [])
   pub bound : steps' ≤ steps + most + 64 * length points
-
--- so many steps and 64 for each point of the reply are enough, also where want of memory cuts its line off
-abbrev pub TakesReplySteps : State → Command → ℕ → ℕ → ℕ → Type 0
-TakesReplySteps before asked most steps steps' =
-    (answered : Reply) → IsReply before asked answered → steps' ≤ steps + most + 64 * length (points_of_path answered)

@@ -7,7 +7,7 @@ ghost use Rattle.geo_text.specs.Version.{by_version};
 ghost use Rattle.shared_seq.specs.Digits.{binary_digits};
 ghost use Rattle.geo_session.specs.Answer.{AppendsAnswer};
 ghost use Rattle.geo_session.specs.Asking.{IsWrittenPaced};
-ghost use Rattle.geo_session.specs.Paced.{IsPaced, TakesPathSteps, TakesReplySteps, TakesSteps, inside_steps, path_pace, reach_pace};
+ghost use Rattle.geo_session.specs.Paced.{IsPaced, TakesPathSteps, TakesSteps, inside_steps, path_pace, reach_pace};
 ghost use Rattle.geo_session.specs.Path.{path_of};
 ghost use Rattle.geo_session.specs.Prepared.{IsPreparedAfter, first_seen, pair_pace, table_steps};
 ghost use Rattle.geo_session.specs.Reply.{IsFound, IsReply, state_after};
@@ -148,7 +148,8 @@ impl Session {
     /// Appends the command's answer and takes the new state. After want of memory the session and `out` are as before. With n the number of
     /// vertices and b that of its binary digits, a path takes at most 16 n steps in version 1 and 36 n in version 2, a tree 3 n + 200 n b b,
     /// and a path from its source 3 n + 24 b b and 26 n + 24 b b. The first record that asks for pairs of vertices makes a table in
-    /// 200 n n b b steps; then a path between two takes none and 20 n. Each point of a path takes 64 more. All others are in `most_steps`.
+    /// 200 n n b b steps; then a path between two takes none and 20 n. Each point of a path takes 64 more, but none if memory is refused.
+    /// All others are in `most_steps`.
     pub fn answer<L: Ledger>(
         &mut self,
         alloc: Global,
@@ -163,22 +164,22 @@ impl Session {
         ensures same_out { OnErr result (out.new.items ≡ out.old.items) }
         ensures path_steps { (s t : Point) → command ≡ Command.Path s t
             → OnOk result (TakesPathSteps (path_pace self.old.state.version * size_of self.old.state.kept) out.old.items out.new.items steps.old steps.new) }
+        ensures path_memory { (s t : Point) → command ≡ Command.Path s t
+            → OnErr result (steps.new ≤ steps.old + path_pace self.old.state.version * size_of self.old.state.kept) }
         ensures tree_steps { (s : Point) → command ≡ Command.Tree s → let n = size_of self.old.state.kept in let b = binary_digits n in
             steps.new ≤ steps.old + (3 * n + 200 * n * (b * b)) }
         ensures reach_steps { (t : Point) → command ≡ Command.Reach t → let n = size_of self.old.state.kept in let b = binary_digits n in
             OnOk result (TakesPathSteps (reach_pace self.old.state.version * n + 24 * (b * b)) out.old.items out.new.items steps.old steps.new) }
+        ensures reach_memory { (t : Point) → command ≡ Command.Reach t → let n = size_of self.old.state.kept in let b = binary_digits n in
+            OnErr result (steps.new ≤ steps.old + (reach_pace self.old.state.version * n + 24 * (b * b))) }
         ensures pair_steps { (i j : ℤ) → command ≡ Command.Pair i j → let n = size_of self.old.state.kept in
             OnOk result (TakesPathSteps (table_steps self.old + pair_pace self.old.state.version * n) out.old.items out.new.items steps.old steps.new) }
+        ensures pair_memory { (i j : ℤ) → command ≡ Command.Pair i j → let n = size_of self.old.state.kept in
+            OnErr result (steps.new ≤ steps.old + (table_steps self.old + pair_pace self.old.state.version * n)) }
         ensures sights_steps { command ≡ Command.Sights → steps.new ≤ steps.old + table_steps self.old }
 
         // Also where memory is refused.
         ensures within { TakesSteps self.old command steps.old steps.new }
-        ensures path_steps_always { (s t : Point) → command ≡ Command.Path s t
-            → TakesReplySteps self.old.state command (path_pace self.old.state.version * size_of self.old.state.kept) steps.old steps.new }
-        ensures reach_steps_always { (t : Point) → command ≡ Command.Reach t → let n = size_of self.old.state.kept in let b = binary_digits n in
-            TakesReplySteps self.old.state command (reach_pace self.old.state.version * n + 24 * (b * b)) steps.old steps.new }
-        ensures pair_steps_always { (i j : ℤ) → command ≡ Command.Pair i j → let n = size_of self.old.state.kept in
-            TakesReplySteps self.old.state command (table_steps self.old + pair_pace self.old.state.version * n) steps.old steps.new }
     {
         self.put_answer(alloc, command, out, steps)
     }

@@ -21,18 +21,18 @@ returns-clause-pair_steps g c = λ i j is.
     (pair_clause c.args.self.now c.args.command c.put_answer.result c.args.out.now.items c.put_answer.new.out.items c.args.steps.now c.put_answer.new.steps
     c.put_answer.ensures.paced i j is).0
 
-pub returns-clause-path_steps_always : goal.returns-clause-path_steps_always
-returns-clause-path_steps_always g c = λ s t is.
+pub returns-clause-path_memory : goal.returns-clause-path_memory
+returns-clause-path_memory g c = λ s t is.
     (path_clause c.args.self.now c.args.command c.put_answer.result c.args.out.now.items c.put_answer.new.out.items c.args.steps.now c.put_answer.new.steps
     c.put_answer.ensures.paced s t is).1
 
-pub returns-clause-reach_steps_always : goal.returns-clause-reach_steps_always
-returns-clause-reach_steps_always g c = λ t is.
+pub returns-clause-reach_memory : goal.returns-clause-reach_memory
+returns-clause-reach_memory g c = λ t is.
     (reach_clause c.args.self.now c.args.command c.put_answer.result c.args.out.now.items c.put_answer.new.out.items c.args.steps.now c.put_answer.new.steps
     c.put_answer.ensures.paced t is).1
 
-pub returns-clause-pair_steps_always : goal.returns-clause-pair_steps_always
-returns-clause-pair_steps_always g c = λ i j is.
+pub returns-clause-pair_memory : goal.returns-clause-pair_memory
+returns-clause-pair_memory g c = λ i j is.
     (pair_clause c.args.self.now c.args.command c.put_answer.result c.args.out.now.items c.put_answer.new.out.items c.args.steps.now c.put_answer.new.steps
     c.put_answer.ensures.paced i j is).1
 

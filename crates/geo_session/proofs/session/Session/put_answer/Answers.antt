@@ -44,7 +44,8 @@ returns-in_err-put_reply-clause-paced g c =
     (written_paced (seen_of (version_of c.self.inside.two) c.self.inside.held) c.from_residual-in_err-put_reply.result c.args.out.now.items
     c.put_reply.new.out.items c.args.steps.now c.ask.new.steps c.put_reply.new.steps c.args.command c.in_ok-asked.asked.reply
     (rw is at c.in_ok-asked.ensures.asked.is_reply) (rw is at c.in_ok-asked.ensures.paced) c.in_err-put_reply.ensures.steps
-    (ok_of_err _ c.from_residual-in_err-put_reply.result c.from_residual-in_err-put_reply.ensures.0))
+    (ok_of_err _ c.from_residual-in_err-put_reply.result c.from_residual-in_err-put_reply.ensures.0)
+    (err_since c.from_residual-in_err-put_reply.result c.in_err-put_reply.ensures.memory))
 
 pub commit-requires : goal.commit-requires
 commit-requires g c = c.in_ok-asked.ensures.asked.suits
@@ -75,7 +76,7 @@ returns-clause-paced g c =
     rw (← c.self.view_is)
     (written_paced (seen_of (version_of c.self.inside.two) c.self.inside.held) _ c.args.out.now.items c.put_reply.new.out.items c.args.steps.now c.ask.new.steps
     c.put_reply.new.steps c.args.command c.in_ok-asked.asked.reply (rw is at c.in_ok-asked.ensures.asked.is_reply) (rw is at c.in_ok-asked.ensures.paced)
-    c.in_ok-put_reply.ensures.steps c.in_ok-put_reply.ensures.ok)
+    c.in_ok-put_reply.ensures.steps c.in_ok-put_reply.ensures.ok tt)
 
 pub returns-in_err-asked-clause-within : goal.returns-in_err-asked-clause-within
 returns-in_err-asked-clause-within g c =
