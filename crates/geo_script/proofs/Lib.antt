@@ -9,5 +9,6 @@ mod Pieces
 mod RecordBytes
 mod RecordSizes
 mod Together
+mod Unprepared
 mod Versions
 mod WrittenBytes

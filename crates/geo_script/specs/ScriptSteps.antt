@@ -1,13 +1,14 @@
 -- How many steps the answers to a script take, by its bytes and by theirs. This project's own.
-use Rattle.std.specs.Prelude.{◌≡◌, ℕ, ◌+◌, ◌*◌, ◌/◌, max, min, Result, Ok, Err}
+use Rattle.std.specs.Prelude.{◌≡◌, false, ℕ, ◌+◌, ◌*◌, ◌/◌, max, min, Result, Ok, Err}
 use Rattle.plane.specs.declared.limits.TheConstants.{MAX_CORNERS}
 use Rattle.geo_text.specs.Reading.{TakesRecord}
 use Rattle.geo_text.specs.Records.{Unread}
 use Rattle.geo_text.specs.declared.command.Bad.{Bad}
 use Rattle.geo_text.specs.declared.command.Command.{Command}
 use Rattle.shared_seq.specs.Digits.{binary_digits}
-use Rattle.geo_session.specs.Paced.{TakesSteps}
+use Rattle.geo_session.specs.Paced.{IsPaced, TakesSteps}
 use Rattle.geo_session.specs.Prepared.{Seen}
+use Rattle.geo_session.specs.State.{State}
 
 -- so many steps a byte of a record are enough before a line of its answer is written, where no polygon has more than n vertices; b is the
 -- number of the binary digits of n
@@ -35,3 +36,12 @@ TakesReadingSteps seen (Err fault) steps steps' = steps' ≡ steps
 pub data TakesRecordSteps (before after : Unread) (seen : Seen) (steps steps' : ℕ) : Type 0 where
   none : steps' ≡ steps → TakesRecordSteps before after seen steps steps'
   some : (reading : Result Command Bad) → TakesRecord before after reading → TakesReadingSteps seen reading steps steps' → TakesRecordSteps before after seen steps steps'
+
+-- a refused record takes none, and a command those of its reply, of which no line is written
+abbrev pub IsReadingPaced : Seen → Result Command Bad → ℕ → ℕ → Type 0
+IsReadingPaced seen (Ok asked) steps steps' = IsPaced seen asked steps steps'
+IsReadingPaced seen (Err fault) steps steps' = steps' ≡ steps
+
+-- a session in this state that has no table of all pairs of vertices, which takes the most steps
+abbrev pub unprepared : State → Seen
+unprepared state = record { state = state; prepared = false }

@@ -2,14 +2,17 @@ ghost use Rattle.std.specs.Prelude.{◌≡◌, ◌↔◌, ◌+◌, ◌*◌, ◌<
 ghost use Rattle.plane.specs.declared.limits.TheConstants.{MAX_CORNERS, MAX_SCRIPT};
 ghost use Rattle.geo_text.specs.Limits.{limits_of};
 ghost use Rattle.geo_text.specs.Records.{AreWhole};
+ghost use Rattle.geo_text.specs.Version.{by_version};
+ghost use Rattle.shared_seq.specs.Digits.{binary_digits};
 ghost use Rattle.geo_session.specs.Output.{IsOutput};
+ghost use Rattle.geo_session.specs.Paced.{inside_steps};
 ghost use Rattle.geo_session.specs.Path.{path_of};
 ghost use Rattle.geo_session.specs.Reply.{IsFound};
 ghost use Rattle.geo_session.specs.State.{size_of};
 ghost use Rattle.geo_script.specs.Asked.{IsAskedWithin};
 ghost use Rattle.geo_script.specs.AskedTalk.{IsReadingReply, asked_in, asked_talk};
 ghost use Rattle.geo_script.specs.Dialog.{AnswersPiece, AnswersSome, IsTalkOf, Talk, first_talk, records_in};
-ghost use Rattle.geo_script.specs.ScriptSteps.{piece_steps, script_steps};
+ghost use Rattle.geo_script.specs.ScriptSteps.{IsReadingPaced, piece_steps, script_steps, unprepared};
 ghost use Rattle.geo_script.specs.declared.dialog.Stop.TheVariants.{Memory as OutOfMemory};
 
 use crate::next::{answer_next, reply};
@@ -134,7 +137,8 @@ impl Dialog {
     /// The reply to a record in numbers, which are that of its word (`Word`) and those of its fields: to the command that they are, or
     /// the first refusal of a record with these fields. It is a record of the script as any other. The first record of a script says
     /// of which version it is: 2 where it is `Two`, which takes no field, and else 1; a later `Two` is no word. The text is that of
-    /// the last piece still. After want of memory all is as before.
+    /// the last piece still. After want of memory all is as before. A refused record takes no steps, and a command at most `most_steps`,
+    /// in which the table of all pairs counts as not made yet, also if memory is refused.
     pub fn ask<L: Ledger>(
         &mut self,
         alloc: Global,
@@ -145,6 +149,7 @@ impl Dialog {
         ensures reply { IfOk result (IsReadingReply self.old.state (asked_in self.old word fields.now)) }
         ensures talk { IfOk result (λ reply. self.new ≡ asked_talk self.old (asked_in self.old word fields.now) reply) }
         ensures same { OnErr result (self.new ≡ self.old) }
+        ensures steps { IsReadingPaced (unprepared self.old.state) (asked_in self.old word fields.now) steps.old steps.new }
     {
         let reading = command(alloc, self.session.version(), self.known, word, fields)?;
         let reply = reply(alloc, &mut self.session, reading, steps)?;
@@ -153,16 +158,19 @@ impl Dialog {
         Ok(reply)
     }
 
-    /// Where a point lies in the polygon, or the refusal that an `inside` with these numbers gets.
+    /// Returns where a point lies in the polygon, or the refusal that an `inside` with these numbers gets. With n vertices it takes at
+    /// most 1280 n + 65 steps.
     pub fn inside<L: Ledger>(&self, x: i64, y: i64, steps: &mut Steps<L>) -> Result<Position, Bad>
-        ensures { IsAskedWithin self.now.state.version (x ∷ y ∷ []) (IsFound self.now.state (Command.Inside (record { x = x; y = y })) Reply.Place) result }
+        ensures answer { IsAskedWithin self.now.state.version (x ∷ y ∷ [])
+            (IsFound self.now.state (Command.Inside (record { x = x; y = y })) Reply.Place) result }
+        ensures steps { steps.new ≤ steps.old + inside_steps (size_of self.now.state.kept) }
     {
         let point = self.limits().point(1, x, y)?;
         self.session.place(&point, steps)
     }
 
-    /// What the version of the script tells of the path from one point to another, or the refusal that a `path` with these
-    /// numbers gets.
+    /// Returns what the version of the script tells of the path from one point to another, or the refusal that a `path` with these
+    /// numbers gets. With n vertices it takes at most 10 n steps in version 1 and 30 n in version 2.
     pub fn path<L: Ledger>(
         &self,
         alloc: Global,
@@ -173,6 +181,7 @@ impl Dialog {
         ensures answer { IfOk result (IsAskedWithin self.now.state.version (from.0 ∷ from.1 ∷ to.0 ∷ to.1 ∷ [])
             (IsFound self.now.state (Command.Path (record { x = from.0; y = from.1 }) (record { x = to.0; y = to.1 })) path_of)) }
         ensures few { IfOk result (λ found. IfOk found (λ points. length points.items ≤ MAX_CORNERS + 2)) }
+        ensures steps { steps.new ≤ steps.old + by_version self.now.state.version 10 30 * size_of self.now.state.kept }
     {
         let limits = self.limits();
         let s = match limits.point(1, from.0, from.1) {
@@ -186,8 +195,9 @@ impl Dialog {
         self.session.path(alloc, &s, &t, steps)
     }
 
-    /// What the version of the script tells of the path from the source of the tree to a point, or the refusal that a `reach`
-    /// with these numbers gets.
+    /// Returns what the version of the script tells of the path from the source of the tree to a point, or the refusal that a `reach`
+    /// with these numbers gets. With n vertices and b binary digits of n it takes at most 3 n + 24 b b steps in version 1 and
+    /// 23 n + 24 b b in version 2.
     pub fn reach<L: Ledger>(
         &self,
         alloc: Global,
@@ -198,6 +208,8 @@ impl Dialog {
         ensures answer { IfOk result (IsAskedWithin self.now.state.version (x ∷ y ∷ [])
             (IsFound self.now.state (Command.Reach (record { x = x; y = y })) path_of)) }
         ensures few { IfOk result (λ found. IfOk found (λ points. length points.items ≤ MAX_CORNERS + 3)) }
+        ensures steps { let n = size_of self.now.state.kept in let b = binary_digits n in
+            steps.new ≤ steps.old + (by_version self.now.state.version 3 23 * n + 24 * (b * b)) }
     {
         match self.limits().point(1, x, y) {
             Ok(point) => self.session.reach(alloc, &point, steps),

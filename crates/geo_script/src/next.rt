@@ -4,7 +4,7 @@ ghost use Rattle.geo_text.specs.Reading.{IsWellSized};
 ghost use Rattle.geo_session.specs.Answer.{AppendsReadingAnswer};
 ghost use Rattle.geo_script.specs.Answered.{AnswersRecord, TakesNext};
 ghost use Rattle.geo_script.specs.AskedTalk.{IsReadingReply, state_after_reading};
-ghost use Rattle.geo_script.specs.ScriptSteps.{TakesReadingSteps, TakesRecordSteps};
+ghost use Rattle.geo_script.specs.ScriptSteps.{IsReadingPaced, TakesReadingSteps, TakesRecordSteps};
 
 use exact_plane::{Memory, Steps};
 use geo_reply::Reply;
@@ -70,6 +70,7 @@ pub(crate) fn reply<L: Ledger>(
     ensures reply { IfOk result (IsReadingReply session.old.state reading) }
     ensures state { IfOk result (λ reply. session.new.state ≡ state_after_reading session.old.state reading reply) }
     ensures same_session { OnErr result (session.new ≡ session.old) }
+    ensures paced { IsReadingPaced session.old reading steps.old steps.new }
 {
     match reading {
         Ok(command) => session.ask(alloc, command, steps),
