@@ -16,8 +16,8 @@ use std::marker::Model;
 use std::sync::ledger::Ledger;
 
 /// A rational point (X / W, Y / W) by three whole numbers, where W is positive and below 2^50, and X and Y are below
-/// 2^75 in size. It is narrow where W is below 2^49, and X and Y below 2^74 in size. Like a `Pt`, it is asked about only
-/// by calls that take a step.
+/// 2^75 in size. It is narrow where W is below 2^49, and X and Y below 2^74 in size. Predicates on it take
+/// steps, and so does reading its parts.
 #[derive(Clone, Copy)]
 pub struct Hom {
     x: i128,

@@ -1,5 +1,5 @@
-//! Exact predicates on points with whole-number coordinates. Each question about coordinates takes a step, and no
-//! coordinate leaves this crate but by `Pt::parts` and `BoundingBox::of`.
+//! Exact predicates on points with integer coordinates. An orientation test or a comparison of two points takes a step. Reading
+//! coordinates takes 64 steps a point, by `Pt::parts`, `Hom::parts` and `BoundingBox::of`; numbers that were read are compared freely.
 #![tactic(auto)]
 
 mod bounding_box;

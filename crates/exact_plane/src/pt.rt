@@ -13,8 +13,8 @@ use std::cmp::Ordering;
 use std::marker::Model;
 use std::sync::ledger::Ledger;
 
-/// A point with whole-number coordinates, each at most `MAX_COORDINATE` in size: x to the right, y upward. It is asked
-/// about only by calls that take a step.
+/// A point with integer coordinates, each at most `MAX_COORDINATE` in size: x to the right, y upward. Predicates on it take steps,
+/// and so does reading its coordinates.
 #[derive(Clone, Copy)]
 pub struct Pt {
     x: i32,

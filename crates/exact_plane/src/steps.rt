@@ -3,8 +3,8 @@ ghost use Rattle.std.specs.Prelude.{◌≡◌, ◌+◌, ◌<◌, ℕ};
 use std::marker::Model;
 use std::sync::ledger::{Blank, Book, Ledger, Share};
 
-/// A counter of steps. It takes no bytes. A question about coordinates is a step, and other work that is to be counted takes
-/// steps by `tick`. A body hands on the counter that it was lent, so that a bound on its steps bounds both.
+/// A counter of steps. It takes no bytes. Each predicate of this crate counts its steps here, and other work is counted by `tick`.
+/// A body hands on the counter that it was lent, so that a bound on its steps bounds both.
 #[derive(Drop)]
 pub struct Steps<L: Ledger> {
     book: Book<L>,

@@ -1,7 +1,7 @@
 // Laws of the answers, each as the contract of a call that does nothing when it runs.
 ghost use Rattle.geo_session.specs.Laws.{OneAnswerLaw, OneOutputLaw, OneReplyLaw};
 
-/// The reply to a command is one, but for the triples of a rational point: each has one text, and leaves one state.
+/// Two replies to one command in one state have one text and leave one state.
 pub fn one_reply()
     ensures { OneReplyLaw }
 {}

@@ -17,7 +17,8 @@ loop-i-preserved g c =
     }
 
 pub returns-clause-none : goal.returns-clause-none
-returns-clause-none g c =
-    (λ _. not_in_ring_unless_held c.args.ring.now.corners c.args.mesh.now c.requires c.args.p.now c.loop-i.i
-        (omega (arith, c.loop-i.auto.i-end, c.count-i-end.ensures.number)) c.loop-i.invariant.none,
-     λ _. refl)
+returns-clause-none g c = (
+  λ _. not_in_ring_unless_held c.args.ring.now.corners c.args.mesh.now c.requires c.args.p.now c.loop-i.i
+      (omega (arith, c.loop-i.auto.i-end, c.count-i-end.ensures.number)) c.loop-i.invariant.none,
+  λ _. refl,
+)
