@@ -29,9 +29,11 @@ pub fn locate<L: Ledger>(mesh: &Mesh, ring: &Ring, p: &Pt, steps: &mut Steps<L>)
 {
     let mut search = Search::new();
     for i in 0..mesh.count() {
-        if holds(ring, &mesh.tri(i), p, &mut search.spared, steps) {
+        let (is_held, spared) = holds(ring, &mesh.tri(i), p, steps);
+        if is_held {
             return Some(i);
         }
+        search.spared += spared;
         if let Some(k) = search.go_on(mesh, ring, p, steps) {
             return Some(least_beside(mesh, ring, k, p, steps));
         }
@@ -39,27 +41,18 @@ pub fn locate<L: Ledger>(mesh: &Mesh, ring: &Ring, p: &Pt, steps: &mut Steps<L>)
     None
 }
 
-// Returns whether the point is in the closed triangle, and adds to the steps that are spared what it takes less than three.
-pub(crate) fn holds<L: Ledger>(
-    ring: &Ring,
-    tri: &Tri,
-    p: &Pt,
-    spared: &mut u32,
-    steps: &mut Steps<L>,
-) -> bool
-    requires cornered { IsCornered ring.now.corners tri.now }
-    requires room { spared.old + 2 < 2 ^ 32 }
-    ensures holds { IsTrue result ↔ IsInTri ring.now.corners tri.now (whole p.now) }
-    ensures more { spared.old ≤ spared.new }
-    ensures few { spared.new ≤ spared.old + 2 }
-    ensures paid { steps.new + spared.new ≤ steps.old + spared.old + 3 }
+// Returns whether the point is in the closed triangle, and how many of three steps are spared.
+pub(crate) fn holds<L: Ledger>(ring: &Ring, tri: &Tri, p: &Pt, steps: &mut Steps<L>) -> (bool, u32)
+    requires { IsCornered ring.now.corners tri.now }
+    ensures holds { IsTrue result.0 ↔ IsInTri ring.now.corners tri.now (whole p.now) }
+    ensures few { result.1 ≤ 2 }
+    ensures paid { steps.new + result.1 ≤ steps.old + 3 }
 {
     let (a, b, c) = corners_of(ring, tri);
     if is_apart(a, b, c, p, steps) {
-        *spared += 2;
-        false
+        (false, 2)
     } else {
-        is_right_of_none(a, b, c, p, steps)
+        (is_right_of_none(a, b, c, p, steps), 0)
     }
 }
 

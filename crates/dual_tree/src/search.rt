@@ -38,30 +38,53 @@ impl Search {
         steps: &mut Steps<L>,
     ) -> Option<u32>
         requires fits { Fits ring.now.corners mesh.now }
-        requires room { self.old.spared < 2 ^ 32 }
         ensures within { IfSome result (λ k. k < length mesh.now) }
         ensures holds { IfSome result (λ k. IsInTri ring.now.corners (tri_at mesh.now k) (whole p.now)) }
-        ensures few { self.new.spared ≤ self.old.spared }
+        ensures no_more { self.new.spared ≤ self.old.spared }
         ensures found { IsSome result → steps.new + 6 ≤ steps.old + self.old.spared }
         ensures paid { IsNone result → steps.new + self.new.spared ≤ steps.old + self.old.spared }
     {
-        let nodes = mesh.nodes();
-        'nodes: while self.spared >= ENOUGH && self.node < nodes.len() {
-            let node = nodes[self.node];
-            self.spared -= 1;
-            if !node.may_hold(ring.corners(), p, steps) {
-                self.node = node.next() as usize;
-                continue 'nodes;
-            }
-            self.node += 1;
-            if let Some((first, count)) = node.leaf() {
-                let found = self.held(mesh, ring, first, count, p, steps);
-                if found.is_some() {
-                    return found;
-                }
+        'leaves: while let Some((first, count)) = self.next_leaf(mesh, ring, p, steps) {
+            let found = self.held(mesh, ring, first, count, p, steps);
+            if found.is_some() {
+                return found;
             }
         }
         None
+    }
+
+    // Goes on to the next leaf of which the box has the point, if the steps that are spared pay for the nodes up to it.
+    #[tactic(auto, using(crate::proofs::LocationFits::places))]
+    fn next_leaf<L: Ledger>(
+        &mut self,
+        mesh: &Mesh,
+        ring: &Ring,
+        p: &Pt,
+        steps: &mut Steps<L>,
+    ) -> Option<(u32, u32)>
+        requires { Fits ring.now.corners mesh.now }
+        ensures few { IfSome result (λ leaf. leaf.1 ≤ 4) }
+        ensures enough { IsSome result → 18 ≤ self.new.spared }
+        ensures fewer { IsSome result → self.new.spared < self.old.spared }
+        ensures no_more { self.new.spared ≤ self.old.spared }
+        ensures paid { steps.new + self.new.spared ≤ steps.old + self.old.spared }
+    {
+        let (nodes, corners) = (mesh.nodes(), ring.corners());
+        let (mut at, mut spared) = (self.node, self.spared);
+        let mut found = None;
+        'nodes: while found.is_none() && spared >= ENOUGH && at < nodes.len() {
+            let node = &nodes[at];
+            spared -= 1;
+            if node.may_hold(corners, p, steps) {
+                at += 1;
+                found = node.leaf();
+            } else {
+                at = node.next() as usize;
+            }
+        }
+        self.node = at;
+        self.spared = spared;
+        found
     }
 
     // Returns the first of some triangles that holds the point. It takes at most 12 steps of those that are spared.
@@ -77,18 +100,18 @@ impl Search {
     ) -> Option<u32>
         requires fits { Fits ring.now.corners mesh.now }
         requires few { count ≤ 4 }
-        requires room { self.old.spared < 2 ^ 32 }
         requires enough { 12 ≤ self.old.spared }
         ensures within { IfSome result (λ k. k < length mesh.now) }
         ensures holds { IfSome result (λ k. IsInTri ring.now.corners (tri_at mesh.now k) (whole p.now)) }
-        ensures few { self.new.spared ≤ self.old.spared }
+        ensures no_more { self.new.spared ≤ self.old.spared }
         ensures left { self.old.spared ≤ self.new.spared + 12 }
         ensures paid { steps.new + self.new.spared ≤ steps.old + self.old.spared }
     {
         let end = mesh.count().min(first.saturating_add(count));
         for k in first..end {
-            self.spared -= 3;
-            if holds(ring, &mesh.tri(k), p, &mut self.spared, steps) {
+            let (is_held, spared) = holds(ring, &mesh.tri(k), p, steps);
+            self.spared -= 3 - spared;
+            if is_held {
                 return Some(k);
             }
         }

@@ -1,5 +1,6 @@
 // The vertices of a set that lie farthest in four directions.
-ghost use Rattle.std.specs.Prelude.{◌≡◌, ◌+◌, ◌≤◌, Option};
+ghost use Rattle.std.specs.Prelude.{◌≡◌, ◌+◌, ◌≤◌, IsTrue, length};
+ghost use Rattle.tri_mesh.specs.Hierarchy.{AreBelow};
 
 use exact_plane::{Pt, Steps, is_within, order, order_upward};
 use std::cmp::Ordering;
@@ -42,22 +43,24 @@ impl Extremes {
         }
     }
 
-    // Returns whether a point lies in their bounding box. It takes at most one step.
-    pub(crate) fn hold<L: Ledger>(&self, corners: &[Pt], p: &Pt, steps: &mut Steps<L>) -> bool
-        ensures { steps.new ≤ steps.old + 1 }
+    // Returns whether they are among the first `n` vertices.
+    pub(crate) fn are_below(&self, n: usize) -> bool
+        ensures { IsTrue result → AreBelow n self.now }
     {
-        let (Some(west), Some(east)) = (
-            corners.get(self.west as usize),
-            corners.get(self.east as usize),
-        ) else {
-            return false;
-        };
-        let (Some(south), Some(north)) = (
-            corners.get(self.south as usize),
-            corners.get(self.north as usize),
-        ) else {
-            return false;
-        };
+        let (west, east) = (self.west as usize, self.east as usize);
+        let (south, north) = (self.south as usize, self.north as usize);
+        west < n && east < n && south < n && north < n
+    }
+
+    // Returns whether a point lies in their bounding box. It takes one step.
+    pub(crate) fn hold<L: Ledger>(&self, corners: &[Pt], p: &Pt, steps: &mut Steps<L>) -> bool
+        requires { AreBelow (length corners.now) self.now }
+        ensures { steps.new ≡ steps.old + 1 }
+    {
+        let west = &corners[self.west as usize];
+        let east = &corners[self.east as usize];
+        let south = &corners[self.south as usize];
+        let north = &corners[self.north as usize];
         is_within(p, west, east, south, north, steps)
     }
 }

@@ -1,5 +1,7 @@
 // A bounding volume hierarchy over the triangles of a mesh. It is there for speed alone: no clause says that a box holds its triangles.
-ghost use Rattle.std.specs.Prelude.{◌≡◌, ◌+◌, ◌-◌, ◌*◌, ◌<◌, ◌≤◌, ◌^◌, IfSome, OnOk, length};
+ghost use Rattle.std.specs.List.{All};
+ghost use Rattle.std.specs.Prelude.{◌≡◌, ◌+◌, ◌-◌, ◌*◌, ◌<◌, ◌≤◌, ◌^◌, IfSome, IsTrue, OnOk, length};
+ghost use Rattle.tri_mesh.specs.Hierarchy.{IsNamedBelow};
 
 use crate::extremes::Extremes;
 use exact_plane::{Memory, Pt, Steps};
@@ -24,9 +26,10 @@ pub struct Node {
 }
 
 impl Node {
-    /// Returns whether a point lies in the box. It takes at most one step.
+    /// Returns whether a point lies in the box, which is named by some of these vertices. It takes one step.
     pub fn may_hold<L: Ledger>(&self, corners: &[Pt], p: &Pt, steps: &mut Steps<L>) -> bool
-        ensures { steps.new ≤ steps.old + 1 }
+        requires { IsNamedBelow (length corners.now) self.now }
+        ensures { steps.new ≡ steps.old + 1 }
     {
         self.around.hold(corners, p, steps)
     }
@@ -126,4 +129,27 @@ fn around<L: Ledger>(
             .joined(&Extremes::of(tri.c), corners, steps);
     }
     around
+}
+
+// Returns the nodes if their boxes are named by some of the first `n` vertices, and else none.
+pub(crate) fn named_below(alloc: Global, nodes: Vec<Node>, n: usize) -> Vec<Node>
+    ensures { All (IsNamedBelow n) result.items }
+{
+    if are_named_below(&nodes, n) {
+        nodes
+    } else {
+        Vec::new(alloc)
+    }
+}
+
+// Returns whether the boxes of all nodes are named by some of the first `n` vertices.
+fn are_named_below(nodes: &[Node], n: usize) -> bool
+    ensures { IsTrue result → All (IsNamedBelow n) nodes.now }
+{
+    for i in 0..nodes.len() {
+        if !nodes[i].around.are_below(n) {
+            return false;
+        }
+    }
+    true
 }

@@ -1,14 +1,15 @@
-ghost use Rattle.std.specs.List.{range_with_len};
+ghost use Rattle.std.specs.List.{All, range_with_len};
 ghost use Rattle.std.specs.Prelude.{◌≡◌, ◌+◌, ◌<◌, ◌^◌, ◌↔◌, ℕ, List, IfOk, IfSome, IsNone, length, vec_len};
 ghost use Rattle.plane.specs.Point.{Point};
 ghost use Rattle.meshes.specs.Fits.{Fits, IsPieceEdge, IsSideOfOne, IsSideOfTwo};
 ghost use Rattle.meshes.specs.Mesh.{IsMesh, side_begin, side_end};
 ghost use Rattle.meshes.specs.Side.{HasSidesOnce, IsTree, tri_at, HasCorner};
+ghost use Rattle.tri_mesh.specs.Hierarchy.{IsNamedBelow};
 ghost use Rattle.tri_mesh.specs.Neighbours.{HasCornersBelow};
 ghost use Rattle.tri_mesh.specs.Outward.{IsOutward, IsRooted};
 
 use crate::corner::firsts_of;
-use crate::hierarchy::Node;
+use crate::hierarchy::{Node, named_below};
 use crate::outward::{Outward, Rooted};
 use crate::search::Search;
 use crate::sides::neighbours;
@@ -29,9 +30,11 @@ pub struct Mesh {
 }
 
 impl Model for Mesh {
-    ghost use Rattle.std.specs.Prelude.{List};
+    ghost use Rattle.std.specs.List.{All};
+    ghost use Rattle.std.specs.Prelude.{◌+◌, List, vec_len};
     ghost use Rattle.meshes.specs.declared.tri.Tri.{Tri};
     ghost use Rattle.tri_mesh.specs.Corner.{KeepsFirsts};
+    ghost use Rattle.tri_mesh.specs.Hierarchy.{IsNamedBelow};
     ghost use Rattle.tri_mesh.specs.Neighbours.{KeepsNeighbours};
     ghost use Rattle.tri_mesh.specs.Outward.{IsRooted};
 
@@ -41,7 +44,8 @@ impl Model for Mesh {
 
     ghost invariant = { λ mesh. KeepsNeighbours mesh.tris.items mesh.neighbours.items
         × KeepsFirsts mesh.tris.items mesh.firsts.items
-        × IsRooted mesh.tris.items 0 mesh.root.order.items mesh.root.places.items };
+        × IsRooted mesh.tris.items 0 mesh.root.order.items mesh.root.places.items
+        × All (IsNamedBelow (vec_len mesh.tris + 2)) mesh.nodes.items };
 }
 
 impl Mesh {
@@ -75,6 +79,7 @@ impl Mesh {
         let neighbours = neighbours(alloc, &tris)?;
         let firsts = firsts_of(alloc, &tris)?;
         let root = Search::from(alloc, &tris, &neighbours, 0)?;
+        let nodes = named_below(alloc, nodes, tris.len() + 2);
         Ok(Mesh {
             tris,
             neighbours,
@@ -130,8 +135,10 @@ impl Mesh {
         self.firsts[i as usize]
     }
 
-    /// Returns the nodes of the hierarchy that it was made with.
-    pub fn nodes(&self) -> &[Node] {
+    /// Returns the nodes of the hierarchy that it was made with, or none if one of their boxes is named by an index that no vertex has.
+    pub fn nodes(&self) -> &[Node]
+        ensures { All (IsNamedBelow (length self.now + 2)) result.now }
+    {
         &self.nodes
     }
 

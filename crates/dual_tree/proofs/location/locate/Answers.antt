@@ -11,9 +11,9 @@ pub loop-i-preserved : goal.loop-i-preserved
 loop-i-preserved g c =
     let P : ℕ → Type 0 = λ k. ¬ IsInTri c.args.ring.now.corners (tri_at c.args.mesh.now k) (whole c.args.p.now) in
     record {
-      none = below_more P c.loop-i.i c.loop-i.invariant.none (λ held. absurd (cc (c.holds.ensures.holds.1 (rw c.tri.ensures held))));
-      few = omega (arith, c.loop-i.invariant.few, c.holds.ensures.few, c.go_on.ensures.few);
-      paid = omega (arith, c.loop-i.invariant.paid, c.holds.ensures.paid, c.in_default.ensures.paid refl);
+      none = below_more P c.loop-i.i c.loop-i.invariant.none (λ held. absurd (cc (c.holds-is_held.ensures.holds.1 (rw c.tri.ensures held))));
+      few = omega (arith, c.loop-i.invariant.few, c.holds-is_held.ensures.few, c.go_on.ensures.no_more);
+      paid = omega (arith, c.loop-i.invariant.paid, c.holds-is_held.ensures.paid, c.in_default.ensures.paid refl);
     }
 
 pub returns-clause-none : goal.returns-clause-none
