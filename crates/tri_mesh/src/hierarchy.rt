@@ -108,7 +108,7 @@ fn put<L: Ledger>(
     Ok(node.around)
 }
 
-// Returns the extremes of the corners of the triangles from `first` to before `end`.
+// Returns the extremes of the corners of the triangles from `first` to before `end`. Most triangles share two corners with the one before.
 fn around<L: Ledger>(
     corners: &[Pt],
     tris: &[Tri],
@@ -120,15 +120,56 @@ fn around<L: Ledger>(
     requires within { end ≤ length tris.now }
     ensures { steps.new + 4 ≤ steps.old + 16 * (end - first) }
 {
-    let mut around = Extremes::of(tris[first].a);
-    for i in first..end {
+    let mut before = tris[first];
+    let mut around = Extremes::of(before.a);
+    around = with_corner(&around, corners, before.b, steps);
+    around = with_corner(&around, corners, before.c, steps);
+    for i in first + 1..end {
         let tri = tris[i];
-        around = around
-            .joined(&Extremes::of(tri.a), corners, steps)
-            .joined(&Extremes::of(tri.b), corners, steps)
-            .joined(&Extremes::of(tri.c), corners, steps);
+        around = with_new_corners(&around, corners, &tri, &before, steps);
+        before = tri;
     }
     around
+}
+
+// Returns the extremes with those corners of a triangle that the one before does not have. It takes at most 12 steps.
+fn with_new_corners<L: Ledger>(
+    around: &Extremes,
+    corners: &[Pt],
+    tri: &Tri,
+    before: &Tri,
+    steps: &mut Steps<L>,
+) -> Extremes
+    ensures { steps.new ≤ steps.old + 12 }
+{
+    let mut all = *around;
+    if !has_corner(before, tri.a) {
+        all = with_corner(&all, corners, tri.a, steps);
+    }
+    if !has_corner(before, tri.b) {
+        all = with_corner(&all, corners, tri.b, steps);
+    }
+    if !has_corner(before, tri.c) {
+        all = with_corner(&all, corners, tri.c, steps);
+    }
+    all
+}
+
+// Returns the extremes with one vertex more. It takes at most 4 steps.
+fn with_corner<L: Ledger>(
+    around: &Extremes,
+    corners: &[Pt],
+    v: u32,
+    steps: &mut Steps<L>,
+) -> Extremes
+    ensures { steps.new ≤ steps.old + 4 }
+{
+    around.joined(&Extremes::of(v), corners, steps)
+}
+
+// Returns whether a triangle has a corner.
+fn has_corner(tri: &Tri, v: u32) -> bool {
+    tri.a == v || tri.b == v || tri.c == v
 }
 
 // Returns the nodes if their boxes are named by some of the first `n` vertices, and else none.
