@@ -4,7 +4,7 @@ use Rattle.tri_mesh.specs.declared.extremes.Extremes.{Extremes}
 use Rattle.tri_mesh.specs.declared.hierarchy.Node.{Node}
 
 -- the extremes are among the first n vertices
-pub record AreBelow (n : ℕ) (extremes : Extremes) : Type 0 where
+pub record AreExtremesBelow (n : ℕ) (extremes : Extremes) : Type 0 where
   pub west : extremes.west < n
   pub east : extremes.east < n
   pub south : extremes.south < n
@@ -12,4 +12,4 @@ pub record AreBelow (n : ℕ) (extremes : Extremes) : Type 0 where
 
 -- the box of a node is named by some of the first n vertices
 abbrev pub IsNamedBelow : ℕ → Node → Type 0
-IsNamedBelow n node = AreBelow n node.around
+IsNamedBelow n node = AreExtremesBelow n node.around

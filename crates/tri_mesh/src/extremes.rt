@@ -1,6 +1,6 @@
 // The vertices of a set that lie farthest in four directions.
 ghost use Rattle.std.specs.Prelude.{◌≡◌, ◌+◌, ◌≤◌, IsTrue, length};
-ghost use Rattle.tri_mesh.specs.Hierarchy.{AreBelow};
+ghost use Rattle.tri_mesh.specs.Hierarchy.{AreExtremesBelow};
 
 use exact_plane::{Pt, Steps, is_within, order, order_upward};
 use std::cmp::Ordering;
@@ -45,7 +45,7 @@ impl Extremes {
 
     // Returns whether they are among the first `n` vertices.
     pub(crate) fn are_below(&self, n: usize) -> bool
-        ensures { IsTrue result → AreBelow n self.now }
+        ensures { IsTrue result → AreExtremesBelow n self.now }
     {
         let (west, east) = (self.west as usize, self.east as usize);
         let (south, north) = (self.south as usize, self.north as usize);
@@ -54,7 +54,7 @@ impl Extremes {
 
     // Returns whether a point lies in their bounding box. It takes one step.
     pub(crate) fn hold<L: Ledger>(&self, corners: &[Pt], p: &Pt, steps: &mut Steps<L>) -> bool
-        requires { AreBelow (length corners.now) self.now }
+        requires { AreExtremesBelow (length corners.now) self.now }
         ensures { steps.new ≡ steps.old + 1 }
     {
         let west = &corners[self.west as usize];
