@@ -1,5 +1,5 @@
 //! `geo` for C: plain numbers and bytes in and out, and a handle of a script that is handed in piece by piece. `geo.h` declares
-//! these calls, and `docs/LIBRARY.md` says how a program links them.
+//! these calls, and `docs/C.md` says how a program links them.
 #![tactic(auto)]
 
 mod ask;
