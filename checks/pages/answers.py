@@ -1,4 +1,4 @@
-"""Looks whether the tables of worked records in docs/SCRIPT.md say what the files of examples/ say."""
+"""Looks whether the tables of worked records of a page say what the files of examples/ say."""
 from __future__ import annotations
 
 import re
@@ -7,7 +7,7 @@ from typing import Iterator, Optional
 
 from . import prose, sources
 
-PAGE = Path("docs/SCRIPT.md")
+PAGE = Path("docs/MANUAL.md")
 MORE = ("tree", "see", "kernel", "hull", "sights")  # whose first line says how many more follow
 
 

@@ -1,4 +1,4 @@
-"""The man page docs/geo.1, made of docs/SCRIPT.md: its card, its table of refusals, and how the program ends."""
+"""The man page docs/geo.1, made of the card of docs/MANUAL.md and the table of docs/ERRORS.md."""
 from __future__ import annotations
 
 import re
@@ -10,19 +10,20 @@ from typing import Iterator
 from . import answers, prose, sources
 
 PAGE = Path("docs/geo.1")
-CARD, READING, REFUSALS, ENDS, EXAMPLE = "On one screen", "Reading and answering", "Refusals", "How the program ends", "l-shape"
+ERRORS = Path("docs/ERRORS.md")
+CARD, READING, REFUSALS, EXAMPLE = "On one screen", "Reading and answering", "Refusals and statuses", "l-shape"
 
 
 class Section:
-    """What stands below a heading of the manual."""
+    """What stands below a heading of a page, or below its title."""
 
-    def __init__(self, heading: str) -> None:
+    def __init__(self, heading: str = "", page: Path = answers.PAGE) -> None:
         self.paragraphs: list[str] = []
         self.rows: list[list[str]] = []
         inside = False
-        for kind, lines, _ in prose.blocks(sources.text(answers.PAGE)):
+        for kind, lines, _ in prose.blocks(sources.text(page)):
             if kind == "heading":
-                inside = lines[0] == f"## {heading}"
+                inside = lines[0] == f"## {heading}" if heading else lines[0].startswith("# ")
             elif inside and kind == "prose":
                 self.paragraphs.append(" ".join(it.strip() for it in lines))
             elif inside and kind == "table":
@@ -39,8 +40,8 @@ def sign(text: str) -> str:
 
 
 def inline(text: str) -> str:
-    """What stands between backticks becomes bold. What points to another place of the manual is left out."""
-    text = re.sub(r" \(\"[^\"]*\", below\)", "", text)
+    """What stands between backticks becomes bold, and of a link its text is left."""
+    text = re.sub(r"\[([^\]]*)\]\([^)]*\)", r"\1", text)
     spans = text.split("`")
     return "".join(f"\\fB{sign(it)}\\fR" if k % 2 else sign(it) for k, it in enumerate(spans))
 
@@ -70,12 +71,31 @@ def sentence(text: str) -> str:
     return text[0].upper() + text[1:] + ("" if text.endswith("..`") else ".")
 
 
-def command(record: str, points: str, answer: str, refused: str) -> Iterator[str]:
-    last = "Never refused." if refused == "none" else "Refused with the first of " + re.sub("`([a-z])", r"`bad,\1", refused) + "."
-    if answer == "none":
-        return item(sentence(record).rstrip("."), last)
+def command(record: str, points: str, answer: str, meaning: str) -> Iterator[str]:
     count = "One point." if points == "1" else f"{points} points." if points else ""
-    return item(record, count, sentence(f"Answer: {answer}"), last)
+    return item(record, meaning, count, sentence(f"Answer: {answer}"))
+
+
+def remedy(text: str) -> str:
+    """What to do as a sentence. One that points further down the page is left out."""
+    if text in ("", "below"):
+        return ""
+    return sentence(f"See {text}" if text.startswith("[") else f"To do: {text}")
+
+
+def refusals(errors: Section) -> Iterator[str]:
+    yield from sentences(Section(page=ERRORS).paragraph("`geo` rejects"))
+    for seen, where, cause, what in errors.rows:
+        if seen.startswith("`bad,"):
+            yield from item(seen.split(", ")[0], sentence(cause), sentence(f"In {where}"), remedy(what))
+    yield ".PP"
+    yield next(sentences(errors.paragraph("`bad,clash` reports")))
+
+
+def statuses(errors: Section) -> Iterator[str]:
+    for seen, _, cause, what in errors.rows:
+        if seen.startswith("status "):
+            yield from item(seen.split()[1].rstrip(","), sentence(cause), remedy(what))
 
 
 def example() -> Iterator[str]:
@@ -94,11 +114,11 @@ def example() -> Iterator[str]:
 
 def rows() -> Iterator[str]:
     version = sources.text("VERSION").strip()
-    card, reading, refusals, ends = Section(CARD), Section(READING), Section(REFUSALS), Section(ENDS)
-    limits = card.paragraph("In `outside,p`")
-    comb = re.search(r"With the arguments (`--comb K`), K (from \S+ to \S+), ([^.]*)\.", limits)
-    assert comb and len(card.rows) > 10 and len(ends.rows) > 5
-    yield f'.\\" Made of {answers.PAGE} by checks/docs --write.'
+    card, reading, errors = Section(CARD), Section(READING), Section(REFUSALS, ERRORS)
+    without = reading.paragraph("Without arguments")
+    comb = re.search(r"With the arguments (`--comb K`), K (from \S+ to \S+), ([^.]*)\.", without)
+    assert comb and len(card.rows) > 10 and len(errors.rows) > 20
+    yield f'.\\" Made of {answers.PAGE} and {ERRORS} by checks/docs --write.'
     yield f'.TH GEO 1 "" "geo {version}" "User Commands"'
     yield ".SH NAME"
     yield "geo \\- exact answers about one simple polygon"
@@ -107,25 +127,20 @@ def rows() -> Iterator[str]:
     yield ".br"
     yield "\\fBgeo \\-\\-comb\\fR \\fIK\\fR"
     yield ".SH DESCRIPTION"
-    yield from sentences(reading.paragraph("Without arguments"))
+    yield from sentences(without.replace(comb[0], "").replace("  ", " "))
     yield ".PP"
-    yield from sentences(card.paragraph("A script is read"))
+    yield from sentences(card.paragraph("A script has"))
     yield ".SH OPTIONS"
     yield from item(comb[1], f"K is {comb[2]}. {sentence(comb[3])}")
     yield ".SH RECORDS"
     for row in card.rows:
         yield from command(*row)
     yield ".PP"
-    yield from sentences(limits.replace(comb[0], "").strip())
+    yield from sentences(card.paragraph("`geo` rejects"))
     yield ".SH REFUSALS"
-    yield from sentences(refusals.paragraph("A record that can't be answered"))
-    for answer, cause, _ in refusals.rows:
-        yield from item(answer, sentence(cause))
+    yield from refusals(errors)
     yield '.SH "EXIT STATUS"'
-    for status, when, written in ends.rows:
-        yield from item(status, sentence(when), sentence(f"Written: {written}"))
-    yield ".PP"
-    yield from sentences(ends.paragraph("A record that is refused"))
+    yield from statuses(errors)
     yield ".SH EXAMPLE"
     yield from example()
     yield '.SH "SEE ALSO"'
@@ -138,7 +153,7 @@ def rows() -> Iterator[str]:
     yield "turn data into scripts, and answers into data and pictures; each says more with"
     yield ".BR \\-\\-help ."
     yield "The whole manual is"
-    yield ".I share/geo/docs/SCRIPT.md"
+    yield ".I share/geo/docs/MANUAL.md"
     yield "where this is installed."
 
 
