@@ -1,5 +1,5 @@
 """Runs the command lines of the pages. Those that end with a remark on seconds, minutes or hours are long, and only looked at; what proves, builds
-or measures has to have one, and is never run from here."""
+or measures has to have one, and is never run from here. On a user page each line that does not run has to have one."""
 from __future__ import annotations
 
 import os
@@ -12,13 +12,13 @@ from concurrent.futures import ThreadPoolExecutor
 from pathlib import Path
 from typing import Iterator, Tuple
 
-from . import names, prose, sources
+from . import names, prose, sources, style
 
 LONG = re.compile(r"\s#\s.*\b(minutes?|hours?|seconds?|until)\b[^#]*$")
 # one that says so is refused, as the page shows
 REFUSED = re.compile(r"\s#\s.*\brefused\b[^#]*$")
 REMARK = re.compile(r"\s#\s[^#]*$")
-BUILTIN = {"cd", "echo", "for", "exit"}
+BUILTIN = {"cd", "echo", "for", "exit", "export"}
 BUILT = re.compile(r"(crates/[a-z_]+/out/[A-Za-z0-9_./]+)")
 # what asks the toolchain or a compiler, or runs one of the repository's own checks
 HEAVY = re.compile(r"\brt (?!version|doc|--help)|\brt$|\.ci/run|\b(checks|bench|clients)/|\bunittest\b|\b(cc|c\+\+) -|examples/library/|^\./|tools/(explore|install|release)")
@@ -33,6 +33,7 @@ class Line:
     def __init__(self, number: int, text: str) -> None:
         self.number, self.text = number, text
         self.is_long = LONG.search(text) is not None
+        self.is_command = is_command(text)
 
     def wants(self) -> list[str]:
         """What has to be built before this can run."""
@@ -47,11 +48,11 @@ class Line:
 
 def is_command(line: str) -> bool:
     first = re.sub(r"^(\(\s*|\{\s*|(cd \S+ && ))+", "", line).split(" ")[0]
-    return re.match(r"(\(cd|cd|for|\w+=|\{) ?", line) is not None or "/" in first and not first.startswith(("+", "|")) or first == "rt" or shutil.which(first) is not None
+    return re.match(r"(\(cd|cd|for|export|\w+=|\{) ?", line) is not None or "/" in first and not first.startswith(("+", "|")) or first == "rt" or shutil.which(first) is not None
 
 
 def blocks_of(text: str) -> Iterator[list[Line]]:
-    """Yields the command lines of each block of code of a page."""
+    """Yields the lines of each block of code of a page that has a command line."""
     for kind, lines, start in prose.blocks(text):
         if kind != "code" or lines[0].startswith("```") and lines[0].strip("` ") not in ("", "sh"):
             continue
@@ -67,10 +68,15 @@ def blocks_of(text: str) -> Iterator[list[Line]]:
             if joined.endswith("\\"):
                 joined = joined[:-1].strip()
                 continue
-            if is_command(joined):
-                found.append(Line(start + before, joined))
+            found.append(Line(start + before, joined))
             joined = ""
-        yield found
+        if any(it.is_command for it in found):
+            yield found
+
+
+def never_run(blocks: list[list[Line]]) -> list[Line]:
+    """The lines among command lines that are none here, such as those of a program that is not there, without a remark."""
+    return [it for block in blocks for it in block if not it.is_command and not it.is_long]
 
 
 def wrong_paths(line: Line) -> list[str]:
@@ -82,7 +88,7 @@ def wrong_paths(line: Line) -> list[str]:
         return [str(folder)]
     made = set(re.findall(r"(?:>|-o|--save|--log|tee) ?([A-Za-z0-9_./-]+)", text))
     found = []
-    for word in re.findall(r"(?<![\w$\"'=,/])(?:\.?[A-Za-z0-9_-]+|\.\.)/[A-Za-z0-9_./-]*", text):
+    for word in re.findall(r"(?<![\w$\"'=,/.])(?:\.?[A-Za-z0-9_-]+|\.\.)/[A-Za-z0-9_./-]*", text):
         if word not in made and not names.MADE.search(word) and not word.startswith("dev/") and not (sources.TOP / folder / word).exists() and not (sources.TOP / word).exists():
             found.append(word)
     return found
@@ -130,7 +136,10 @@ def look(pages: list[Path]) -> tuple[list[Wrong], int, int]:
     with tempfile.TemporaryDirectory() as made:
         jobs: list[tuple[Path, list[list[Line]], Path]] = []
         for page in pages:
-            blocks = [it for it in blocks_of(sources.text(page)) if it]
+            every = list(blocks_of(sources.text(page)))
+            blocks = [[it for it in block if it.is_command] for block in every]
+            if page in style.user_pages():
+                found += [(page, line.number, f"not run, and no remark at its end says how long it takes: {line.text[:60]}") for line in never_run(every)]
             for line in (it for block in blocks for it in block):
                 total += 1
                 found += [(page, line.number, f"there is no {word}, of a command line") for word in wrong_paths(line)]

@@ -154,7 +154,20 @@ def wrong(span: Span, page: Path) -> Optional[str]:
 
 
 def anchors(text: str) -> set[str]:
-    return {definitions.anchor(line.lstrip("# ")) for line in text.split("\n") if line.startswith("#")}
+    """The anchors of the headings of a page. Of headings with the same text the second has -1 at its end, and so on."""
+    found: set[str] = set()
+    for kind, lines, _ in prose.blocks(text):
+        if kind == "heading":
+            bare = definitions.anchor(lines[0].lstrip("# "))
+            found.add(next(it for it in [bare, *(f"{bare}-{k}" for k in range(1, len(found) + 1))] if it not in found))
+    return found
+
+
+def links(text: str) -> Iterator[tuple[int, str]]:
+    """Yields each link of a page, but not in blocks of code, with the number of its line."""
+    for kind, lines, start in prose.blocks(text):
+        for k, line in enumerate(lines if kind != "code" else []):
+            yield from ((start + k, it) for it in LINK.findall(line))
 
 
 def look(page: Path, text: str) -> Iterator[tuple[int, str]]:
@@ -163,13 +176,12 @@ def look(page: Path, text: str) -> Iterator[tuple[int, str]]:
         found = wrong(span, page)
         if found:
             yield span.line, found
-    for number, line in enumerate(text.split("\n"), 1):
-        for link in LINK.findall(line):
-            to, _, part = link.partition("#")
-            if link.startswith("http"):
-                continue
-            at = page.parent / to if to else page
-            if not (sources.TOP / at).exists():
-                yield number, f"the link to {to} leads nowhere"
-            elif part and part not in anchors(text if not to else sources.text(at)):
-                yield number, f"the link to #{part} leads nowhere"
+    for number, link in links(text):
+        to, _, part = link.partition("#")
+        if link.startswith("http"):
+            continue
+        at = page.parent / to if to else page
+        if not (sources.TOP / at).exists() or not (sources.TOP / at).resolve().is_relative_to(sources.TOP):
+            yield number, f"the link to {to} leads nowhere"
+        elif part and part not in anchors(text if not to else sources.text(at)):
+            yield number, f"the link to #{part} leads nowhere"
