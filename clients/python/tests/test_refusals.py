@@ -71,9 +71,11 @@ class Refusals(unittest.TestCase):
             self.assertEqual((type(refused), refused.places), (kind, places))
         self.assertIsNone(geo.refusal(self.session.answer('inside,1,1')))
 
-    def test_each_refusal_of_the_manual_has_a_class(self) -> None:
-        words = [line.split('`')[1].split(',')[1] for line in (TOP / 'docs/SCRIPT.md').read_text().splitlines() if line.startswith('| `bad,')]
-        self.assertEqual(sorted(words), sorted(kind.word for kind in geo.Refusal.__subclasses__()))
+    def test_each_refusal_of_the_table_of_errors_has_its_class(self) -> None:
+        _, _, table = (TOP / 'docs/ERRORS.md').read_text().partition('## Refusals and statuses')
+        rows = [line.split('`') for line in table.splitlines() if line.startswith('| `bad,')]
+        named = [(row[1].split(',')[1], row[3]) for row in rows]
+        self.assertEqual(sorted(named), sorted((kind.word, kind.__name__) for kind in geo.Refusal.__subclasses__()))
 
     def test_too_long(self) -> None:
         self.assertEqual(geo.answer_script(b'\n' * 8_388_608), b'')
