@@ -37,7 +37,7 @@ struct ExactPoint {
     Fraction x, y;
 };
 
-/* Of a script: its limits, and which points of a path are told (docs/SCRIPT.md). */
+/* Of a script: its limits (docs/LIMITS.md), and which points of a path are told (docs/MANUAL.md). */
 enum class Version { one, two };
 
 enum class Place : std::uint8_t { outside = GEO_OUTSIDE, inside = GEO_INSIDE, edge = GEO_EDGE };
@@ -121,7 +121,7 @@ struct Paths {
 inline constexpr std::uint32_t before_nothing = GEO_BEFORE_NOTHING;
 inline constexpr std::uint32_t before_source = GEO_BEFORE_SOURCE;
 
-/* Why a question is refused: the words of the lines `bad,..`, as docs/SCRIPT.md has them. */
+/* Why a question is refused: the words of the lines `bad,..`, as docs/ERRORS.md has them. */
 enum class Kind : std::uint8_t {
     word = GEO_WORD,
     fields = GEO_FIELDS,

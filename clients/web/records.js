@@ -1,4 +1,4 @@
-// Records of a script, and the answers to them. docs/SCRIPT.md says what they mean.
+// Records of a script, and the answers to them. docs/MANUAL.md says what they mean.
 
 /** A point in whole numbers. @typedef {[number, number]} Point */
 /** A record: its word and its fields. @typedef {string[]} Row */

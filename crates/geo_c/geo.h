@@ -1,4 +1,4 @@
-/* geo from C: exact answers about one simple polygon with whole-number vertices. docs/LIBRARY.md says how to link it.
+/* geo from C: exact answers about one simple polygon with whole-number vertices. docs/C.md says how to link it.
 
    Who calls owes what follows; nothing checks it.
    - A pointer is valid for its length, and not NULL, also where the length is 0. What a call writes to, `session`, `out`, `points`,
@@ -17,7 +17,7 @@ extern "C" {
 #endif
 
 /* How a call ends. 0, 3 and 5 mean what they mean as statuses of the program `geo`; the others are refusals of a record, as
-   docs/SCRIPT.md has them. Where a number is added to 20, 30 or 40 it is below 10: else the status is 20, 30 or 40 itself, and
+   docs/ERRORS.md has them. Where a number is added to 20, 30 or 40 it is below 10: else the status is 20, 30 or 40 itself, and
    geo_session_numbers has the number. */
 enum {
     GEO_OK = 0,

@@ -125,7 +125,7 @@ HOSTILE: List[Tuple[str, str, int, str]] = [
     ('the same in other signs', request(f'GET /{TOKEN}/%2e%2e/%2e%2e/README.md HTTP/1.1', HOST), 404, 'path'),
     ('the same backwards', request(f'GET /{TOKEN}/..\\..\\README.md HTTP/1.1', HOST), 404, 'path'),
     ('a path of the system', request(f'GET /{TOKEN}//etc/passwd HTTP/1.1', HOST), 404, 'path'),
-    ('a file of the folder that is none of the page', request(f'GET /{TOKEN}/README.md HTTP/1.1', HOST), 404, 'path'),
+    ('a file that the folder lacks', request(f'GET /{TOKEN}/README.md HTTP/1.1', HOST), 404, 'path'),
     ('a test', request(f'GET /{TOKEN}/test/test_server.py HTTP/1.1', HOST), 404, 'path'),
     ('an example above the examples', request(f'GET /{TOKEN}/examples/../README.md HTTP/1.1', HOST), 404, 'path'),
     ('an example that is an answer', request(f'GET /{TOKEN}/examples/l-shape.stdout HTTP/1.1', HOST), 404, 'path'),
