@@ -485,8 +485,12 @@ public:
         geo_session_places(&held_, detail::pointer(points), points.size(), detail::pointer(out), out.size());
     }
 
-    /* The paths of many pairs of points, ends[0] to ends[1], ends[2] to ends[3] and so on. A refusal is a status among the others. */
+    /* Returns the paths of many pairs of points, ends[0] to ends[1], ends[2] to ends[3] and so on. A refusal is a status among the others.
+       Throws std::invalid_argument for an odd number of points. */
     Paths paths(Span<const Point> ends) {
+        if (ends.size() % 2 != 0) {
+            throw std::invalid_argument("geo: paths takes an even number of points, a start and a goal for each path");
+        }
         const std::size_t count = ends.size() / 2;
         Paths found{std::vector<std::uint8_t>(count), std::vector<std::size_t>(count), {}};
         std::size_t used = 0;

@@ -93,6 +93,6 @@ function sayRefusal(word, [, cause, a, b], version) {
     large: 'This takes polygons of at most 1,024 vertices.',
     index: `${which ?? `Number ${a}`} is no vertex of the polygon.`,
     outside: `${which ?? (a === '1' && word !== 'hull' && word !== 'round' ? 'The point' : `Point ${Number(a) - 1}`)} is outside the polygon.`,
-    clash: `The polygon is not simple: edges ${a} and ${b} share a point where they must not.`,
+    clash: `The polygon is not simple: edges ${a} and ${b} share a point where they must not, or one has equal ends.`,
   }[cause] ?? `Refused: ${cause}.`;
 }

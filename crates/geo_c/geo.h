@@ -27,7 +27,7 @@ enum {
     GEO_FIELDS = 11,     /* bad,fields: the count of fields is wrong for the word; for a list of points, it is odd */
     GEO_FEW = 12,        /* bad,few: a list has fewer points than its word takes */
     GEO_MANY = 13,       /* bad,many: a list has more points than its word takes */
-    GEO_CLASH = 14,      /* bad,clash,i,j: edges i and j of the polygon meet where they must not */
+    GEO_CLASH = 14,      /* bad,clash,i,j: edges i and j share a point where they must not, or one has equal ends */
     GEO_NO_POLYGON = 16, /* bad,no_polygon: none was accepted yet */
     GEO_NO_TREE = 17,    /* bad,no_tree: there is a polygon, and no tree in it yet */
     GEO_LARGE = 18,      /* bad,large: the polygon has more vertices than the word takes */

@@ -158,7 +158,7 @@ class Newcomer(Opened):
 
     def test_a_bow_tie_is_said_and_its_edges_are_marked(self) -> None:
         self.draw([(0, 0), (4, 4), (4, 0), (0, 4)])
-        self.assertEqual(self.page.text('#said'), 'The polygon is not simple: edges 0 and 2 share a point where they must not.')
+        self.assertEqual(self.page.text('#said'), 'The polygon is not simple: edges 0 and 2 share a point where they must not, or one has equal ends.')
         self.assertEqual(self.page.evaluate("document.querySelector('#shown .wrong .edge').getAttribute('d').match(/M/g).length"), 2)
         self.tool('kernel')
         self.assertEqual(self.page.text('#rows tr:last-child td:last-child'), 'bad,no_polygon')
@@ -179,7 +179,7 @@ class Newcomer(Opened):
         self.is_right()
         self.page.drag([self.at((3, 3)), self.at((0, 2))])
         self.settle()
-        self.assertEqual(self.page.text('#said'), 'The polygon is not simple: edges 2 and 5 share a point where they must not.')
+        self.assertEqual(self.page.text('#said'), 'The polygon is not simple: edges 2 and 5 share a point where they must not, or one has equal ends.')
         self.is_right()
         self.page.key('z', 2)
         self.settle()
