@@ -369,10 +369,15 @@ def hexagonal(n: int) -> Ring:
 
 
 Shape = Callable[[int], Ring]
-SHAPES: Dict[str, Shape] = {shape.__name__: shape for shape in (comb, star, maze, spiral)}
-SIX_SHAPES: Dict[str, Shape] = SHAPES | {shape.__name__: shape for shape in (convex, moon)}
-MORE_SHAPES: Dict[str, Shape] = SIX_SHAPES | {shape.__name__: shape for shape in (
-    skyline, saw, fan, arch, hourglass, zigzag, slope, wall, fence, turned, askew, sheared, hexagonal, broom)}
+
+
+def by_name(*shapes: Shape) -> Dict[str, Shape]:
+    return {shape.__name__: shape for shape in shapes}
+
+
+SHAPES = by_name(comb, star, maze, spiral)
+SIX_SHAPES = SHAPES | by_name(convex, moon)
+MORE_SHAPES = SIX_SHAPES | by_name(skyline, saw, fan, arch, hourglass, zigzag, slope, wall, fence, turned, askew, sheared, hexagonal, broom)
 WAYS: Dict[str, Shape] = {'comb': way_along_comb, 'convex': way_across_convex, 'saw': way_past_teeth}
 
 

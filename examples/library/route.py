@@ -10,14 +10,14 @@ from pathlib import Path
 from typing import Iterable, Sequence, Tuple
 
 HERE = Path(__file__).resolve().parent
-sys.path.insert(0, str(HERE.parents[1] / 'clients' / 'python'))
-import geo
+sys.path.append(str(HERE.parents[1] / 'clients' / 'python'))  # used unless the package is installed
+import geo_exact
 
 
 def main() -> None:
     features = json.loads((HERE / 'office.geojson').read_text())['features']
     places = {feature['properties']['name']: feature['geometry'] for feature in features}
-    with geo.Session(places.pop('floor')) as office:
+    with geo_exact.Session(places.pop('floor')) as office:
         print('From Ada to the printer:', way(office.path(places['Ada'], places['printer'])))
 
         office.tree(places['entrance'])
@@ -40,7 +40,7 @@ def main() -> None:
 
         try:
             office.path(places['Ada'], (4000, 5000))
-        except geo.Outside as refused:
+        except geo_exact.Outside as refused:
             print('\nInto the wall:', refused)
 
 

@@ -3,10 +3,13 @@ from __future__ import annotations
 
 import importlib
 import random
-import sys
 from fractions import Fraction
 from pathlib import Path
 from typing import Any, List, Tuple
+
+from geo_exact.backends import chosen
+from geo_exact.backends.library import Library
+from geo_exact.errors import LibraryMissing
 
 try:
     numpy: Any = importlib.import_module('numpy')
@@ -17,10 +20,13 @@ try:
 except ImportError:
     shapely = None
 
+try:
+    WITHOUT = '' if isinstance(chosen(), Library) else 'the library does not answer, but GEO_PROGRAM'
+except LibraryMissing as error:
+    WITHOUT = str(error)
+
 PACKAGE = Path(__file__).resolve().parents[1]
 TOP = PACKAGE.parents[1]
-sys.path.append(str(TOP / 'tools'))
-
 
 L = [(0, 0), (4, 0), (4, 2), (2, 2), (2, 4), (0, 4)]
 

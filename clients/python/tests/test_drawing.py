@@ -1,146 +1,153 @@
 """The pictures that notebooks show."""
 from __future__ import annotations
 
+import re
 import unittest
-from concurrent.futures import ThreadPoolExecutor
-from typing import Any, Callable, Iterable, List, Tuple
+from typing import Any, Callable, List, Optional, Tuple
 from xml.etree import ElementTree
 
-import geo
-from geo import Frame, Session
+import geo_exact
+from geo_exact import Frame, Session
+from geo_exact.drawing import Answer, svg
 from .rings import L
 
-BLUE, RED = '#0072b2', '#d55e00'
-U = [(0, 0), (6, 0), (6, 4), (4, 4), (4, 2), (2, 2), (2, 4), (0, 4)]
+SVG = '{http://www.w3.org/2000/svg}'
+BLUE = '#0072b2'
+SOURCE, NOTHING = 0xffff_fffe, 0xffff_ffff
+SQUARE = [(0, 0), (2, 0), (2, 2), (0, 2)]
+VIEW = [(0, 0), (4, 0), (4, 0), (4, 2), (4, 2), (2, 2), (2, 2), (2, 2), (0, 3), (0, 0)]
+HULL = [(4, 2), (2, 2), (2, 4), (2, 4), (1, 2), (1, 2), (2, 2), (4, 2)]
 
 Spot = Tuple[float, float]
-Shapes = List[Tuple[str, str]]
-
-
-def at(x: float, y: float) -> str:
-    """A point of the L on its picture."""
-    return f'{14 + 110 * x:.0f} {14 + 110 * (4 - y):.0f}'
-
-
-def line(*points: Spot) -> str:
-    return 'M' + ' '.join(at(*point) for point in points)
-
-
-def dots(points: Iterable[Spot]) -> str:
-    return ''.join(f'{line(point)}h0' for point in points)
-
-
-def crosses(points: Iterable[Spot]) -> str:
-    return ''.join(f'{line(point)}m-4-4l8 8m0-8l-8 8' for point in points)
-
-
-def path(start: Spot, bend: Spot, goal: Spot) -> Shapes:
-    return [(BLUE, line(start, bend, goal)), (BLUE, dots([bend])), (BLUE, dots([start])), ('white', dots([start])), (BLUE, dots([goal]))]
+Shapes = List[Tuple[str, Any]]
 
 
 class Pictures(unittest.TestCase):
-    """Pictures of the L after each question, by the colours and the ways of what is drawn over it."""
+    """Pictures of the L after each query, by its title, its shapes and the points that these are at."""
 
-    def drawn(self, session: Session) -> Tuple[str, Shapes]:
-        """The title, and the shapes after the outline."""
-        root = ElementTree.fromstring(session._repr_svg_() or '')
-        title, outline, *shapes = root
-        self.assertEqual((root.tag, title.tag[-5:], outline.get('fill')), ('{http://www.w3.org/2000/svg}svg', 'title', '#f4f1e8'))
-        return title.text or '', [(it.get('stroke', ''), it.get('d') or f'{it.get("transform")} {it.text}') for it in shapes]
+    def shapes(self, answer: Answer, frame: Optional[Frame] = None) -> Tuple[str, Shapes]:
+        """Returns the title, and the kind and the points of each shape between the outline and the numbers of the vertices."""
+        root = ElementTree.fromstring(svg(L, answer, frame))
+        title, outline = root[0].text or '', next(it for it in root if it.get('class') == 'ring')
+        (left, low), = self.points(outline)[:1]
+        scale = max(left for left, _ in self.points(outline)) - left
+        found: Shapes = []
+        for shape in list(root)[list(root).index(outline) + 1:]:
+            if shape.tag not in (f'{SVG}g', f'{SVG}text'):
+                kind = 'hollow' if shape.get('fill') == 'white' else shape.get('class') or shape.tag[len(SVG):]
+                found.append((kind, [(round(4 * (x - left) / scale, 1), round(4 * (low - y) / scale, 1)) for x, y in self.points(shape)]))
+            elif shape.get('fill'):
+                found.append(('dots', len(shape)))
+        return title, found
 
-    def test_the_outline(self) -> None:
-        with Session(L) as session:
-            picture = session._repr_svg_() or ''
-            self.assertIn(f'd="{line(*L)}Z"', picture)
-            self.assertIn('viewBox="0 0 468 468" width="468" height="468"', picture)
-            self.assertEqual(self.drawn(session), ('6 vertices', []))
+    def points(self, shape: ElementTree.Element) -> List[Spot]:
+        written = (shape.get('points') or shape.get('transform') or ' '.join(re.findall(r'[ML][\d.]+,[\d.]+', shape.get('d') or ''))
+                   or f'{shape.get("cx")},{shape.get("cy")}')
+        return [(float(x), float(y)) for x, y in re.findall(r'([\d.]+)[, ]([\d.]+)', written)]
 
-    def test_each_question(self) -> None:
-        ends = [(0, 0), (4, 0), (4, 0), (4, 2), (4, 2), (2, 2), (2, 2), (2, 2), (0, 3), (0, 0)]
-        view: Shapes = [(BLUE, line(*ends) + 'Z'), (BLUE, dots([(4, 1)]))]
-        hull: Shapes = [(BLUE, line((4, 2), (2, 2), (2, 4), (1, 2)) + 'Z'), (BLUE, dots([(4, 2), (2, 4), (1, 2)]))]
-        square = [(0, 0), (2, 0), (2, 2), (0, 2)]
-        cases: List[Tuple[Callable[[Session], object], str, Shapes]] = [
-            (lambda it: it.inside((1, 1)), '1 place', [(BLUE, dots([(1, 1)]))]),
-            (lambda it: it.inside((3, 2)), '1 place', [(BLUE, dots([(3, 2)])), ('white', dots([(3, 2)]))]),
-            (lambda it: it.places([(1, 1), (3, 3), (1, 2)]), '3 places', [(BLUE, dots([(1, 1), (1, 2)])), (RED, crosses([(3, 3)]))]),
-            (lambda it: it.path((4, 1), (1, 4)), 'a path of 3 points', path((4, 1), (2, 2), (1, 4))),
-            (lambda it: (it.tree((4, 1)), it.reach((1, 4))), 'a path of 3 points', path((4, 1), (2, 2), (1, 4))),
-            (lambda it: it.pair(2, 4), 'a path of 3 points', path((4, 2), (2, 2), (2, 4))),
-            (lambda it: it.paths([((4, 1), (1, 4)), ((0, 0), (1, 1))]), '2 paths', [
-                (BLUE, line((4, 1), (2, 2), (1, 4)) + line((0, 0), (1, 1)))]),
-            (lambda it: it.check([(4, 1), (2, 2), (1, 4)]), 'a taut chain', [
-                (BLUE, line((4, 1), (2, 2), (1, 4)))]),
-            (lambda it: it.check([(4, 0), (2, 2), (0, 4)]), 'no taut chain, by point 1', [
-                (BLUE, line((4, 0), (2, 2), (0, 4))), (RED, crosses([(2, 2)]))]),
-            (lambda it: it.tree((2, 2)), 'a tree of paths', [
-                (BLUE, ''.join(line(vertex, (2, 2)) for vertex in L if vertex != (2, 2))),
-                (BLUE, dots([(2, 2)])), ('white', dots([(2, 2)]))]),
-            (lambda it: it.see((4, 1)), 'what a point sees', view),
-            (lambda it: it.view_polygon((4, 1)), 'what a point sees', view),
-            (lambda it: it.kernel(), 'a kernel of 4 corners', [(BLUE, line(*square) + 'Z'), (BLUE, dots(square))]),
-            (lambda it: it.hull([(4, 2), (2, 4), (1, 2)]), 'a relative hull', hull),
-            (lambda it: it.hull_polygon([(4, 2), (2, 4), (1, 2)]), 'a relative hull', hull),
-            (lambda it: it.round([(0, 0), (1, 1), (2, 4), (4, 2)]), '3 points in their order round', [
-                (BLUE, dots([(0, 0), (1, 1), (2, 4), (4, 2)])), ('white', dots([(0, 0), (1, 1), (2, 4), (4, 2)])),
-                (BLUE, dots([(0, 0), (4, 2), (2, 4)])),
-                *(('white', f'translate({at(x, y)}) {k}.') for k, x, y in [(1, 0, 0), (2, 4, 2), (3, 2, 4)])]),
-            (lambda it: it.guards(), '1 guard', [(BLUE, dots([(2, 2)]))]),
+    def test_each_query(self) -> None:
+        ways = [((0, 0), (1, 1)), ((4, 1), (2, 2), (1, 4))]
+        cases: List[Tuple[Answer, str, Shapes]] = [
+            (Answer('inside', [(1, 1)], [1]), '1 place', [('circle', [(1, 1)])]),
+            (Answer('inside', [(3, 2)], [2]), '1 place', [('hollow', [(3, 2)])]),
+            (Answer('inside', [(3, 3)], [0]), '1 place', [('path', [(3, 3)])]),
+            (Answer('places', [(1, 1), (3, 3), (1, 2), (3, 2)], b'\1\0\1\2'), '4 places', [
+                ('path', [(1, 1), (1, 2), (3, 2)]), ('path', [(3, 2)]), ('path', [(3, 3)])]),
+            (Answer('path', [(4, 1), (1, 4)], (), ways[1]), 'a path of 3 points', [
+                ('way', [*ways[1]]), ('hollow', [(4, 1)]), ('circle', [(1, 4)])]),
+            (Answer('pair', [(0, 2)], (), [(0, 0), (4, 2)]), 'a path of 2 points', [
+                ('way', [(0, 0), (4, 2)]), ('hollow', [(0, 0)]), ('circle', [(4, 2)])]),
+            (Answer('paths', (), [2, 3], [*ways[0], *ways[1]]), '2 paths', [('branch', [*ways[0], *ways[1]])]),
+            (Answer('check', ways[1], [0]), 'a taut path', [('way', [*ways[1]])]),
+            (Answer('check', [(4, 0), (2, 2), (0, 4)], [3, 1]), 'not a taut path, by point 1', [
+                ('way', [(4, 0), (2, 2), (0, 4)]), ('path', [(2, 2)])]),
+            (Answer('tree', [(0, 0)], [NOTHING, SOURCE, SOURCE, SOURCE, 3, SOURCE]), 'a shortest path tree', [
+                ('branch', [(4, 0), (0, 0), (4, 2), (0, 0), (2, 2), (0, 0), (2, 4), (2, 2), (0, 4), (0, 0)]), ('hollow', [(0, 0)])]),
+            (Answer('see', [(4, 1)], [0, 1, 2, 3, 5], (), VIEW), 'a visibility polygon', [
+                ('seen', [(0, 0), (4, 0), (4, 2), (2, 2), (0, 3)]), ('part', [(0, 0), (4, 0), (4, 2), (2, 2), (2, 2), (0, 3), (0, 0)]),
+                ('circle', [(4, 1)])]),
+            (Answer('kernel', (), (), (), SQUARE), 'a kernel of 4 corners', [
+                ('seen', SQUARE), ('branch', [*SQUARE, (0, 0)]), *(('circle', [corner]) for corner in SQUARE)]),
+            (Answer('kernel'), 'a kernel of 0 corners', [('branch', [])]),
+            (Answer('hull', [(4, 2), (2, 4), (1, 2)], [0, 1, 3, 1, 2, 2, 2, 0, 3], HULL), 'a relative hull', [
+                ('way', HULL[:3]), ('way', HULL[3:5]), ('way', HULL[5:]), *(('circle', [point]) for point in [(4, 2), (2, 4), (1, 2)])]),
+            (Answer('round', [(0, 0), (1, 1), (2, 4)], [0, 2]), '2 points around a relative hull', [
+                ('circle', [(0, 0)]), ('hollow', [(1, 1)]), ('circle', [(2, 4)])]),
+            (Answer('guards', (), [3]), '1 guard', [('dots', 1)]),
+            (Answer('sights', (), [0, 1, 1, 2]), '2 pairs of vertices that see each other', [('sight', [(0, 0), (4, 0), (4, 2)])]),
         ]
-        for ask, words, shapes in cases:
-            with Session(L) as session:
-                ask(session)
-                self.assertEqual(self.drawn(session), (f'6 vertices; {words}', shapes))
+        for answer, words, shapes in cases:
+            self.assertEqual(self.shapes(answer), (f'6 vertices; {words}', shapes), answer.word)
+        self.assertEqual(self.shapes(Answer('')), ('6 vertices', []))
 
-    def test_pairs_that_see_each_other(self) -> None:
-        with Session(L) as session:
-            found = ''.join(line(L[i], L[j]) for i, j in session.sights())
-            self.assertEqual(self.drawn(session), ('6 vertices; 12 pairs of vertices that see each other', [(BLUE, found)]))
+    def test_axes_and_legend(self) -> None:
+        found = svg(L, Answer('guards', (), [3]))
+        for text in ('>6 vertices<', '>1 guard<', '>4</text>', f'fill="{BLUE}"'):
+            self.assertIn(text, found)
+        framed = svg(L, Answer('guards', (), [3]), Frame((8, 49), 10))
+        self.assertTrue('>8.4</text>' in framed and '>49.4</text>' in framed, framed)
+        self.assertEqual(self.shapes(Answer('guards', (), [3]), Frame((8, 49), 10)), self.shapes(Answer('guards', (), [3])))
 
-    def test_a_box_round_all(self) -> None:
-        with Session(L) as session:
-            session.places([(-4, -4), (1, 1)])
-            self.assertIn(f'd="M{14 + 220} {14 + 220} ', session._repr_svg_() or '')
-        with Session(U) as session:
-            session.kernel()
-            self.assertEqual(self.drawn(session), ('8 vertices; a kernel of 0 corners', []))
-            self.assertIn('viewBox="0 0 468 321"', session._repr_svg_() or '')
+    def test_points_outside_are_on_the_page(self) -> None:
+        root = ElementTree.fromstring(svg(L, Answer('places', [(-4, -4), (1, 1)], b'\0\1')))
+        outline = next(it for it in root if it.get('class') == 'ring')
+        self.assertEqual(max(x for x, _ in self.points(outline)) - self.points(outline)[0][0], 220)
+
+    def test_longitude_and_latitude(self) -> None:
+        square = [(0, 0), (200, 0), (200, 200), (0, 200)]
+        for geographic, wide in ((False, 440), (True, 220)):
+            root = ElementTree.fromstring(svg(square, Answer('guards', (), [0]), Frame((8, 59), 100), geographic))
+            xs = [x for x, _ in self.points(next(it for it in root if it.get('class') == 'ring'))]
+            self.assertAlmostEqual(max(xs) - min(xs), wide)
 
     def test_what_is_left_out(self) -> None:
-        cases: List[Tuple[Callable[[Session], Any], str, int]] = [
-            (lambda it: it.places([(1, 1)] * 20_001), '20,001 places; 1 left out', 20_000),
-            (lambda it: it.places([(1, 1)] * 20_000), '20,000 places', 20_000),
-            (lambda it: it.paths([((4, 1), (1, 4))] * 7_000), '7,000 paths; 334 left out', 6_666),
-            (lambda it: it.paths([((0, 0), (1, 1))] * 10_001), '10,001 paths; 1 left out', 10_000),
+        cases: List[Tuple[Answer, str, int]] = [
+            (Answer('places', [(1, 1)] * 20_000, bytes(20_001)), '20,001 places; 1 left out', 20_000),
+            (Answer('places', [(1, 1)] * 20_000, bytes(20_000)), '20,000 places', 20_000),
+            (Answer('paths', (), [3] * 7_000, [(4, 1), (2, 2), (1, 4)] * 6_667), '7,000 paths; 334 left out', 3 * 6_666),
+            (Answer('paths', (), [2] * 10_001, [(0, 0), (1, 1)] * 10_001), '10,001 paths; 1 left out', 20_000),
+            (Answer('sights', (), [0, 1] * 10_003), '10,003 pairs of vertices that see each other; 3 left out', 20_000),
         ]
-        for ask, words, count in cases:
+        for answer, words, count in cases:
+            title, shapes = self.shapes(answer)
+            self.assertEqual((title, [len(points) for _, points in shapes]), (f'6 vertices; {words}', [count]))
+
+
+class Sessions(unittest.TestCase):
+    """The pictures that sessions hand over."""
+
+    def test_each_query(self) -> None:
+        cases: List[Tuple[Callable[[Session], Any], str]] = [
+            (lambda it: it.places([(1, 1), (3, 3)]), '2 places'), (lambda it: it.pair(2, 4), 'a path of 3 points'),
+            (lambda it: (it.tree((4, 1)), it.reach((1, 4))), 'a path of 3 points'), (lambda it: it.tree((2, 2)), 'a shortest path tree'),
+            (lambda it: it.paths([((4, 1), (1, 4)), ((0, 0), (1, 1))]), '2 paths'),
+            (lambda it: it.view_polygon((4, 1)), 'a visibility polygon'), (lambda it: it.kernel(), 'a kernel of 4 corners'),
+            (lambda it: it.check([(4, 0), (2, 2), (0, 4)]), 'not a taut path, by point 1'),
+            (lambda it: it.hull_polygon([(4, 2), (2, 4), (1, 2)]), 'a relative hull'), (lambda it: it.guards(), '1 guard'),
+            (lambda it: it.round([(0, 0), (1, 1), (2, 4), (4, 2)]), '3 points around a relative hull'),
+            (lambda it: it.sights(), '12 pairs of vertices that see each other'),
+        ]
+        for ask, words in cases:
             with Session(L) as session:
                 ask(session)
-                title, shapes = self.drawn(session)
-                self.assertEqual((title, len(shapes), shapes[0][1].count('M')), (f'6 vertices; {words}', 1, count))
+                self.assertIn(f'<title>6 vertices; {words}</title>', session._repr_svg_() or '')
 
     def test_what_is_no_answer(self) -> None:
         with Session() as session:
             self.assertIsNone(session._repr_svg_())
             session.polygon(L)
             session.path((4, 1), (1, 4))
-            self.assertRaises(geo.Outside, session.path, (4, 1), (3, 3))
-            self.assertEqual(self.drawn(session), ('6 vertices', []))
+            self.assertRaises(geo_exact.Outside, session.path, (4, 1), (3, 3))
+            self.assertIn('<title>6 vertices</title>', session._repr_svg_() or '')
             session.see((1, 1))
             session.answer('inside,1,1')
-            self.assertEqual(self.drawn(session), ('6 vertices', []))
-            with ThreadPoolExecutor(1) as other:
-                self.assertRaises(RuntimeError, other.submit(session._repr_svg_).result)
+            self.assertIn('<title>6 vertices</title>', session._repr_svg_() or '')
             session.answer('polygon,0,0,4,0,0,4')
             self.assertIsNone(session._repr_svg_())
             session.polygon(L)
         self.assertIsNone(session._repr_svg_())
 
     def test_frames(self) -> None:
-        with Session(L) as plain, Session([(x / 10, y / 10) for x, y in L], frame=Frame(scale=10)) as framed:
-            plain.see((4, 1))
-            framed.see((0.4, 0.1))
-            self.assertEqual(plain._repr_svg_(), framed._repr_svg_())
-            plain.places([(1, 1), (3, 3)])
-            framed.places([(0.1, 0.1), (0.3, 0.3)])
-            self.assertEqual(plain._repr_svg_(), framed._repr_svg_())
+        with Session([(x / 10, y / 10) for x, y in L], frame=Frame(scale=10)) as session:
+            session.path((0.4, 0.1), (0.1, 0.4))
+            self.assertIn('>0.4</text>', session._repr_svg_() or '')

@@ -6,10 +6,10 @@ import sys
 import unittest
 from typing import Any, Iterable, List, Sequence, Tuple
 
-import geo
-from geo import Before, Session
+import geo_exact as geo
+from geo_exact import Before, Session
+from geo_exact.answers import answered as script
 from .rings import TOP, random_script
-from geotools import script
 
 EXAMPLES = [answers.with_suffix('') for answers in sorted((TOP / 'examples').glob('*.stdout')) if not answers.with_suffix('.args').exists()]
 
@@ -22,9 +22,10 @@ class Lines:
 
     def answer(self, row: script.Answered) -> List[str]:
         """The lines that answer a record: by its method, or as they are where it has none or other fields than numbers in their count, or
-        where the method takes a closed ring, which is refused in a record."""
-        closed = row.word == 'polygon' and row.record[1:3] == row.record[-2:]
-        if closed or not hasattr(self, row.word) or row.lines[0][:2] in [['bad', 'fields'], ['bad', 'number']]:
+        where the method leaves out points of a ring, which a record refuses."""
+        points = row.record[1:] if row.word == 'polygon' else []
+        repeats = any(points[k:k + 2] == points[k - 2:k] or points[:2] == points[-2:] for k in range(2, len(points), 2))
+        if repeats or not hasattr(self, row.word) or row.lines[0][:2] in [['bad', 'fields'], ['bad', 'number']]:
             return self.session.answer(','.join(row.record)).decode().splitlines()
         try:
             lines: List[str] = getattr(self, row.word)(map(int, row.record[1:]) if row.word in script.NUMBERED else row.points)

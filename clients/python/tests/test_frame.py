@@ -7,8 +7,8 @@ from decimal import Decimal
 from fractions import Fraction
 from typing import Any, List
 
-import geo
-from geo import Before, Frame, Place, Session
+import geo_exact as geo
+from geo_exact import Before, Frame, Place, Session
 from .rings import L, geojson, numpy, shapely
 
 # an L of some centimetres, far from the origin
@@ -46,7 +46,8 @@ class Frames(unittest.TestCase):
 
     def test_what_lies_between_two_steps(self) -> None:
         tenths, nearest = Frame(scale=10), Frame(scale=10, snap=True)
-        taken: List[Any] = [0.3, .1 + .2, .25, .35, -.25, 1e-9, Decimal('0.3'), Decimal('0.31'), Fraction(3, 10), Fraction(1, 3), 2, 1e300, float('inf')]
+        taken: List[Any] = [0.3, .1 + .2, .25, .35, -.25, 1e-9, Decimal('0.3'), Decimal('0.31'), Fraction(3, 10), Fraction(1, 3), 2, 1e300,
+                            float('inf')]
         snapped = [3, 3, 3, 3, -2, 0, 3, 3, 3, 3, 20, 1 << 62, None]
         exact = [3, None, None, None, None, None, 3, None, 3, None, 20, 1 << 62, None]
         for number, near, whole in zip(taken, snapped, exact):
@@ -56,7 +57,7 @@ class Frames(unittest.TestCase):
                         frame.take(number, 1)
                 else:
                     self.assertEqual(frame.take(number, 1), wanted, (number, frame))
-        with self.assertRaisesRegex(geo.NotWhole, 'at place 4 the number lies between two steps of 1/10: 0.25'):
+        with self.assertRaisesRegex(geo.NotWhole, 'at place 4: 0.25 lies between two steps of 0.1; snap=True takes the nearest step'):
             Session([(0, 0), (1, .25)], frame=tenths)
         for given in '0.3', None, 1j:
             with self.assertRaises(geo.NotANumber):
@@ -85,13 +86,47 @@ class Frames(unittest.TestCase):
         for frame in Frame.of(far, digits=2), Frame.of(far), Frame.of(far, 4, wide=True):
             with Session(far, frame=frame, wide=True) as session:
                 self.assertEqual(session.ring, far)
+        with self.assertRaisesRegex(geo.NotWhole, r'place 3: 12.5 is not an integer; .*Frame.of\(ring\)'):
+            Session(ring)
         with self.assertRaisesRegex(ValueError, '2,500,000 steps .* 2,000,000'):
             Frame.of([(0, 0), (25, 0), (0, 1)], digits=5)
+        self.assertEqual(Frame.of('POLYGON ((0 0, 1.25 0, 0 1.5))'), Frame(scale=100))
         text: Any = 'POLYGON EMPTY'
         with self.assertRaises(geo.NotAShape):
             Frame.of(text)
         with self.assertRaises(ValueError):
             Frame.of([])
+
+    def test_proposed_with_room_on_all_sides(self) -> None:
+        """A tenth of the box if the limit allows it, else what there is; the origin is a round number."""
+        for low, high, origin in [(0, 900_000, 0), (0, 1_000_000, 500_000), (-1_000_000, 1_000_000, 0), (100, 2_000_100, 1_000_100),
+                                  (7_000_001, 8_000_001, 7_500_000), (-3_000_000, -1_200_000, -2_100_000)]:
+            frame = Frame.of([(low, 0), (high, 0), (low, 1)])
+            self.assertEqual(frame, Frame((origin, 0)), (low, high))
+            room = min((high - low) // 10, max(0, 999_999 - (high - low) // 2))
+            self.assertTrue(all(abs(frame.take(x, 1)) <= 1_000_000 for x in (low - room, high + room)))
+        degrees = [(8.4041, 49.0132), (8.4067, 49.0132), (8.4067, 49.0151)]
+        self.assertEqual(Frame.of(degrees, 7), Frame((8.4, 49), 10**7))
+        draw = random.Random(2)
+        for _ in range(200):
+            left, size = draw.uniform(-1e6, 1e6), draw.uniform(.001, 1e5)
+            frame = Frame.of([(left, left), (left + size, left), (left, left + size)], snap=True)
+            found = [frame.take(x, 1) for x in (left - size / 20, left + size * 1.05)]
+            self.assertTrue(max(found[1], -found[0]) <= 1_000_000 or size * frame.scale > 1_800_000, (left, size))
+
+    def test_decimals_take_a_short_way(self) -> None:
+        draw = random.Random(3)
+        for _ in range(500):
+            number = Decimal(draw.randint(-10**9, 10**9)).scaleb(-draw.randint(0, 6))
+            scales: List[Any] = [1, 10, Decimal('0.01'), Fraction(1, 3)]
+            for scale in scales:
+                frame = Frame((Decimal('0.5'), 7), scale, snap=True)
+                whole = frame.take(Fraction(number), 1), frame.take(Fraction(number), 2)
+                self.assertIn(frame.placed([(number, number)], wide=True), [[whole], None], (number, scale))
+                self.assertEqual(frame.off([(number, number)], [whole]), frame.off([(Fraction(number), number)], [whole]))
+        halves = Frame((0, Decimal('18.5')), 2)
+        for text, found in [('12.5', [(25, -12)]), ('12', [(24, -13)]), ('12.25', None), ('1e99999', None), ('9999999', None)]:
+            self.assertEqual(halves.placed([(Decimal(text), Decimal(text))], wide=True), found)
 
     def test_what_is_no_frame(self) -> None:
         for origin, scale in ((0, 0), 0), ((0, 0), -1), ((0,), 1), ((0, float('nan')), 1):

@@ -5,8 +5,8 @@ import random
 import unittest
 from typing import Any, Callable, List
 
-import geo
-from geo import Place, Session
+import geo_exact as geo
+from geo_exact import Place, Session
 from .rings import L, comb, geojson, numpy, some, strip
 
 
@@ -56,7 +56,7 @@ class Many(unittest.TestCase):
 
     def test_refusals(self) -> None:
         places, paths = self.session.places, self.session.paths
-        self.refuses(geo.Range(2), 1, places, [(3, 3), (1, 10**40), (1_000_001, 1)])
+        self.assertEqual(places([(3, 3), (1, 10**40), (1, 1), (1_000_001, 1)]), [Place.OUTSIDE, Place.OUTSIDE, Place.INSIDE, Place.OUTSIDE])
         self.refuses(geo.Range(3), 2, paths, [((1, 1), (2, 1)), ((1, 1), (1, 1)), ((3, 3), (-1_000_001, 3))])
         self.refuses(geo.Outside(1), 0, paths, [((3, 3), (1, 1)), ((1, 1), (3, 3))])
         self.refuses(geo.Outside(2), 1, paths, [((1, 1), (1, 1)), ((1, 1), (3, 3))])
@@ -68,7 +68,9 @@ class Many(unittest.TestCase):
             with self.assertRaises(geo.NotTaken):
                 ask(given)
         with Session() as session:
-            self.refuses(geo.NoPolygon(), 0, session.places, [(1, 1)])
+            self.refuses(geo.NoPolygon(), 1, session.places, [(10**9, 1), (1, 1)])
+            with self.assertRaises(geo.NoPolygon):
+                session.places([(10**9, 1)])
             self.refuses(geo.NoPolygon(), 0, session.paths, [((1, 1), (1, 1))])
         self.assertIsNone(geo.Few().question)
 
@@ -101,9 +103,9 @@ class Many(unittest.TestCase):
     @unittest.skipIf(numpy is None, 'without NumPy')
     def test_numpy_refusals(self) -> None:
         places, paths = self.session.places, self.session.paths
-        self.refuses(geo.Range(1), 1, places, numpy.array([(1, 1), ((1 << 64) - 1, 1)], 'uint64'))
-        self.refuses(geo.Range(2), 0, places, numpy.array([(1, -1e300)]))
-        self.refuses(geo.Range(1), 0, places, numpy.array([(-(1 << 63), 1)]))
+        cases: List[Any] = [((1 << 64) - 1, 'uint64'), (-1e300, 'f8'), (-(1 << 63), 'i8')]
+        for far, kind in cases:
+            self.assertEqual(places(numpy.array([(1, 1), (far, 1)], kind)).tolist(), [1, 0])
         self.refuses(geo.Outside(2), 1, paths, numpy.array([((1, 1), (1, 1)), ((1, 1), (3, 3))]))
         for number in 0.5, float('nan'), float('inf'):
             with self.assertRaises(geo.NotWhole) as raised:

@@ -5,11 +5,10 @@ import subprocess
 import sys
 import unittest
 
-from .rings import PACKAGE
-
+from .rings import PACKAGE, WITHOUT
 
 LITTLE_MEMORY = '''
-import resource, geo
+import resource, geo_exact as geo
 low = [(4 * i, 6 * (i % 2)) for i in range(8192)]
 session = geo.Session(low + [(x, y + 2) for x, y in reversed(low)], wide=True)
 points = low[::128]
@@ -29,6 +28,7 @@ print(session.polygon(low[:2] + [(0, 9)]), session.kernel()[0])
 
 
 class Memory(unittest.TestCase):
+    @unittest.skipIf(WITHOUT, WITHOUT)
     @unittest.skipUnless(sys.platform == 'linux', 'without /proc')
     def test_a_process_with_little_memory(self) -> None:
         ran = subprocess.run([sys.executable, '-c', LITTLE_MEMORY], cwd=PACKAGE, capture_output=True, text=True)

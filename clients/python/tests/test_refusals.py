@@ -4,8 +4,8 @@ from __future__ import annotations
 import unittest
 from typing import Any, Callable, List, Tuple, Type
 
-import geo
-from geo import Session
+import geo_exact as geo
+from geo_exact import Session
 from .rings import TOP, L, comb
 
 
@@ -30,7 +30,6 @@ class Refusals(unittest.TestCase):
             (geo.Range, (2,), path, (1, -far), (3, 3)),
             (geo.Range, (3,), path, (1, 1), (1 << 64, 3)),
             (geo.Range, (4,), path, (1, 1), (3, -(1 << 63))),
-            (geo.Range, (2,), self.session.inside, (1, 1e300)),
             (geo.Range, (2,), self.session.check, [(1, far)]),
             (geo.NoTree, (), self.session.reach, (1, 4)),
         ]
@@ -45,6 +44,11 @@ class Refusals(unittest.TestCase):
         self.refuses(geo.Many, (), self.session.round, 65 * [(1, 1)])
         self.refuses(geo.Many, (), self.session.polygon, comb(4098))
         self.assertEqual(self.session.guards(), [3], 'the polygon before stays')
+
+    def test_a_far_point_is_outside(self) -> None:
+        self.assertEqual([self.session.inside(point) for point in [(1, 1e300), (-10**40, 1)]], 2 * [geo.Place.OUTSIDE])
+        with Session() as session:
+            self.refuses(geo.NoPolygon, (), session.inside, (1, 1e300))
 
     def test_numbers_of_vertices(self) -> None:
         self.refuses(geo.Index, (2,), self.session.pair, 0, 6)

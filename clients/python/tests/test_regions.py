@@ -1,14 +1,19 @@
-"""What answers enclose: views, kernels and hulls as regions."""
+"""Regions: visibility polygons, kernels and relative hulls."""
 from __future__ import annotations
 
+import importlib
 import random
+import struct
 import unittest
 from fractions import Fraction
 from typing import Any, List, Sequence, Tuple
 
-import geo
-from geo import Frame, Place, Region, Session
+import geo_exact as geo
+from geo_exact import Frame, Place, Region, Session
 from .rings import L, geojson, shapely, some, strip
+
+wkt: Any = shapely and importlib.import_module('shapely.wkt')
+wkb: Any = shapely and importlib.import_module('shapely.wkb')
 
 SQUARE = [(0, 0), (4, 0), (4, 4), (0, 4)]
 ROOMS = [(0, 0), (2, 0), (2, 1), (4, 1), (4, 2), (1, 2), (1, 1), (0, 1)]
@@ -160,13 +165,13 @@ class Shapes(unittest.TestCase):
         self.assertNotEqual(Region.of_walk([(1, 2)]), Region.of_walk([(1, 3)]))
         self.assertTrue(square and Region.of_walk(SQUARE[:2]) and Region.of_walk(SQUARE[:1]))
         self.assertFalse(Region())
-        self.assertEqual(repr(square), '<Region: a polygon of 4 corners>')
-        self.assertEqual(repr(Region()), '<Region: nothing>')
+        self.assertEqual(repr(square), '<Region: a polygon of 4 vertices>')
+        self.assertEqual(repr(Region()), '<Region: empty>')
         self.assertEqual(repr(Region.of_walk([(1, 2)])), '<Region: the point (1, 2)>')
         star = [point for k in range(5) for point in [(0, 0), (k, 9 - k)]]
         self.assertEqual(repr(Region.of_walk(star)), '<Region: a line of 2 points, a line of 2 points, a line of 2 points, 2 more>')
 
-    def test_geojson(self) -> None:
+    def test_geojson_wkt_and_wkb(self) -> None:
         closed = [*SQUARE, SQUARE[0]]
         line, ends = [(0, 0), (1, 2), (3, 0)], [(-1, -1), (1, 2), (3, 0)]
         lobes = [[(-2, -1), (0, -2), (0, 0)], [(0, 0), (2, 1), (0, 2)]]
@@ -185,13 +190,21 @@ class Shapes(unittest.TestCase):
         for walk, shape in cases:
             region = Region.of_walk([(Fraction(x), Fraction(y)) for x, y in walk])
             self.assertEqual(region.__geo_interface__, shape)
-            if shapely:
+            if wkb:
+                self.assertEqual(shapely.mapping(wkb.loads(region.wkb)), shapely.mapping(shapely.shape(region)))
+                self.assertTrue(wkt.loads(region.wkt).equals(shapely.shape(region)) or not region)
                 found = shapely.shape(region)
                 self.assertTrue(found.is_valid, walk)
                 self.assertEqual((type(found), found.area, found.is_empty), (getattr(shapely, shape['type']), region.area, not region))
-        third = Region.of_walk([(Fraction(1, 3), 2)])
+        third, two = Region.of_walk([(Fraction(1, 3), 2)]), Region(points=[(0, 0), (1, 2)])
         self.assertEqual(third.__geo_interface__, geojson('Point', (1 / 3, 2.0)))
-        self.assertEqual(geojson('MultiPoint', [(0, 0), (1, 2)]), Region(points=[(0, 0), (1, 2)]).__geo_interface__)
+        self.assertEqual(third.wkb, struct.pack('<BIdd', 1, 1, 1 / 3, 2))
+        self.assertEqual(geojson('MultiPoint', [(0, 0), (1, 2)]), two.__geo_interface__)
+        self.assertEqual(two.wkb, struct.pack('<BIIBIddBIdd', 1, 4, 2, 1, 1, 0, 0, 1, 1, 1, 2))
+        mixed = Region(polygons=[SQUARE], lines=[[(4, 4), (Fraction(19, 2), 4)], [(4, 4), (4, 9)]])
+        self.assertEqual([it.wkt for it in (third, two, mixed, Region())], [
+            'POINT (0.3333333333333333 2)', 'MULTIPOINT ((0 0), (1 2))', 'GEOMETRYCOLLECTION (POLYGON ((0 0, 4 0, 4 4, 0 4, 0 0)), '
+            'MULTILINESTRING ((4 4, 9.5 4), (4 4, 4 9)))', 'POLYGON EMPTY'])
 
 
 class Strips(unittest.TestCase):

@@ -1,15 +1,26 @@
 """Points, lists and rings in other forms than pairs of integers."""
 from __future__ import annotations
 
+import json
 import pickle
+import struct
 import unittest
 from decimal import Decimal
 from fractions import Fraction
-from typing import Any, Callable, List, Type
+from typing import Any, Callable, List, Tuple, Type
 
-import geo
-from geo import Place, Session
-from .rings import L, Shape, geojson, numpy, shapely
+import geo_exact as geo
+from geo_exact import Frame, Place, Session
+from .rings import L, Shape, comb, geojson, numpy, shapely
+
+
+def wkb(kind: int, coordinates: Any, order: str = '<', srid: int = 0) -> bytes:
+    """A Point or a Polygon as WKB, or as EWKB with an SRID."""
+    head = struct.pack(order + 'BI', order == '<', kind + (srid and 0x2000_0000)) + (struct.pack(order + 'I', srid) if srid else b'')
+    if kind == 1:
+        return head + struct.pack(order + '2d', *coordinates)
+    rings = (struct.pack(f'{order}I{2 * len(ring)}d', len(ring), *(c for point in ring for c in point)) for ring in coordinates)
+    return head + struct.pack(order + 'I', len(coordinates)) + b''.join(rings)
 
 
 class Shapes(unittest.TestCase):
@@ -29,7 +40,7 @@ class Shapes(unittest.TestCase):
         with self.assertRaises(geo.NotTaken) as refused:
             ask(*given)
         self.assertEqual((type(refused.exception), refused.exception.place), (kind, place), given)
-        self.assertIn(f'at place {place} ', str(refused.exception))
+        self.assertIn(f'at place {place}: ', str(refused.exception))
         return refused.exception
 
     def test_numbers(self) -> None:
@@ -48,8 +59,7 @@ class Shapes(unittest.TestCase):
         cases: List[Any] = [
             (geo.NotANumber, 1, inside, ('1', '2')),
             (geo.NotANumber, 2, inside, (1, None)),
-            (geo.NotANumber, 2, inside, (1, Decimal('3'))),
-            (geo.NotANumber, 4, path, (1, 1), (1, Decimal('0.5'))),
+            (geo.NotWhole, 4, path, (1, 1), (1, Decimal('0.5'))),
             (geo.NotANumber, 5, polygon, [(0, 0), (4, 0), (1j, 4)]),
             (geo.NotAPoint, 1, inside, 7),
             (geo.NotAPoint, 1, inside, None),
@@ -64,27 +74,42 @@ class Shapes(unittest.TestCase):
             self.refuses(kind, place, ask, *given)
 
     def test_texts(self) -> None:
+        closed = ', '.join(f'{x} {y}' for x, y in L + L[:1])
+        for ring in f'POLYGON (({closed}))', f'SRID=25832;POLYGON Z (({closed.replace(",", " 7,")} 7))', json.dumps(geojson('Polygon', [L])):
+            self.ask(ring, 'POINT (2.0 3)', 'LINESTRING (4 2, 2 4, 0 0)')
+        self.ask(wkb(3, [L + L[:1]]), wkb(1, (2, 3)), 'MULTIPOINT ((4 2), (2 4), (0 0))')
+        self.ask(wkb(3, [L], order='>', srid=4326).hex(), wkb(1, (2, 3), order='>').hex().upper(), 'MULTIPOINT (4 2, 2 4, 0 0)')
         cases: List[Any] = [
-            (1, self.session.inside, 'POINT (1 2)'), (1, self.session.polygon, 'POLYGON ((0 0, 4 0, 4 4, 0 0))'), (1, self.session.hull, b'1,2'),
-            (3, self.session.path, (1, 1), 'POINT (1 2)'), (3, self.session.polygon, [(0, 0), 'POINT (1 2)']),
-            (7, self.session.paths, [((1, 1), (2, 2)), ((1, 1), 'POINT (1 2)')]),
+            (1, self.session.inside, 'POLYGON ((0 0, 1 0, 0 1))', 'is a Polygon, and a Point is expected'),
+            (1, self.session.polygon, 'POINT (1 2)', 'is a Point, and a Polygon or LinearRing is expected'),
+            (1, self.session.polygon, 'POLYGON ((0 0, 4 0', 'line 1, column 11: WKT breaks off, since a parenthesis is not closed'),
+            (1, self.session.polygon, wkb(3, [L])[:-1], 'WKB breaks off'),
+            (1, self.session.polygon, 'POINT (1 2) POINT (3 4)', 'has 2 geometries, and one is expected'),
+            (1, self.session.hull, b'1,2', 'is not WKT, WKB or GeoJSON'),
+            (3, self.session.polygon, [(0, 0), 'POINT (1'], 'is not WKT, WKB or GeoJSON'),
         ]
-        for place, ask, *given in cases:
-            self.assertIn('shapely.wkt.loads', str(self.refuses(geo.NotAShape, place, ask, *given)))
+        for place, ask, given, said in cases:
+            self.assertIn(said, str(self.refuses(geo.NotAShape, place, ask, given)))
 
-    def test_a_closing_point_is_dropped(self) -> None:
+    def test_points_that_are_left_out(self) -> None:
         closed = L + L[:1]
         forms: List[Any] = [closed, tuple(closed), [list(point) for point in closed], iter(closed)]
         for ring in forms:
             self.assertEqual(self.session.polygon(ring), 6)
             self.assertEqual(self.session.ring, L)
+        cases: List[Tuple[Any, Tuple[int, ...]]] = [(closed, (6,)), (closed + L[:1], (6, 7)), (L[:2] + L[1:2] + L[1:], (2, 3)), (L, ())]
+        for points, left_out in cases:
+            self.session.polygon(points)
+            self.assertEqual((self.session.ring, self.session.left_out), (L, left_out))
+        near = [(0, 0), (.04, 0), (4, 0), (4, 4.01), (4, 4), (0, .02)]
+        with Session(near, frame=Frame(scale=10, snap=True)) as session:
+            self.assertEqual(session.left_out, (1, 4, 5), 'after the frame was applied')
+        repeated = [point for point in comb(4096) for _ in (0, 1)]
+        self.assertEqual(self.session.polygon(repeated), 4096, 'the limit counts vertices')
         forms = [[], [(1, 1)], [(1, 1), (1, 1)]]
         for ring in forms:
             with self.assertRaises(geo.Few):
                 self.session.polygon(ring)
-        with self.assertRaises(geo.Clash) as refused:
-            self.session.polygon(closed + closed[:1])
-        self.assertEqual(refused.exception.places, (0, 5), 'it is dropped once')
 
     def test_geojson(self) -> None:
         closed = L + L[:1]

@@ -9,9 +9,10 @@ import unittest
 from concurrent.futures import ThreadPoolExecutor
 from typing import Any, Callable, List, Tuple
 
-import geo
-from geo import Session, library
-from .rings import PACKAGE, L, comb
+import geo_exact as geo
+from geo_exact import Session
+from geo_exact.backends import library
+from .rings import PACKAGE, WITHOUT, L, comb
 
 
 class Cleared:
@@ -46,7 +47,7 @@ class Cleared:
 # sessions of 4,096 vertices that a pool makes and the main thread drops: more than 200 MB where they were kept
 POOL = '''
 from concurrent.futures import ThreadPoolExecutor
-import geo
+import geo_exact as geo
 low = [(4 * i, 6 * (i % 2)) for i in range(2048)]
 ring = low + [(x, y + 2) for x, y in reversed(low)]
 
@@ -62,6 +63,7 @@ print((pages() - before) * 4)
 '''
 
 
+@unittest.skipIf(WITHOUT, WITHOUT)
 class Threads(unittest.TestCase):
     def on_another_thread(self, ask: Callable[..., object], *given: Any) -> List[type]:
         """What is raised there, if anything is."""

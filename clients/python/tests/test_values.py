@@ -4,7 +4,7 @@ from __future__ import annotations
 import unittest
 from fractions import Fraction
 
-from geo import Before, Clash, Part, Place, Rule, Session, Side, Verdict
+from geo_exact import Before, Clash, Part, Place, Rule, Session, Side, Verdict
 from .rings import L, comb, exact
 
 
@@ -70,18 +70,18 @@ class Values(unittest.TestCase):
 
     def test_what_a_session_says_of_itself(self) -> None:
         self.assertEqual((self.session.ring, self.session.source, self.session.wide, self.session.frame), (L, None, False, None))
-        self.assertEqual(repr(self.session), '<geo.Session: 6 vertices>')
+        self.assertEqual(repr(self.session), '<geo_exact.Session: 6 vertices>')
         self.session.tree((4, 1))
-        self.assertEqual((self.session.source, repr(self.session)), ((4, 1), '<geo.Session: 6 vertices, source (4, 1)>'))
+        self.assertEqual((self.session.source, repr(self.session)), ((4, 1), '<geo_exact.Session: 6 vertices, source (4, 1)>'))
         with self.assertRaises(Clash):
             self.session.polygon([(0, 0), (4, 4), (4, 0), (0, 4)])
         self.assertEqual((self.session.ring, self.session.source), (L, (4, 1)), 'a refusal changes nothing')
         self.session.polygon(L[:3])
         self.assertEqual((self.session.ring, self.session.source), (L[:3], None))
         self.session.close()
-        self.assertEqual(repr(self.session), '<geo.Session: closed>')
+        self.assertEqual(repr(self.session), '<geo_exact.Session: closed>')
         with Session(wide=True) as session:
-            self.assertEqual((session.ring, repr(session)), (None, '<geo.Session: no polygon, wide>'))
+            self.assertEqual((session.ring, repr(session)), (None, '<geo_exact.Session: no polygon, wide>'))
 
     def test_what_a_session_says_after_text(self) -> None:
         self.session.tree((4, 1))

@@ -16,12 +16,13 @@ import json
 import math
 import sys
 import time
-from typing import Any, Callable, Dict, List, Tuple
+from typing import Any, Dict, List, Tuple
 
 from browser import Browser, Page, found
 from places import TOP, answers_to
 
-from explorer import backends, server
+from geo_exact import backends
+from geo_exact.explorer import server
 
 sys.path.insert(0, str(TOP / 'bench'))
 inputs: Any = importlib.import_module('inputs')
@@ -112,10 +113,10 @@ class Drag:
         return found
 
 
-def is_right(page: Page, make: Callable[[], backends.Backend]) -> bool:
+def is_right(page: Page, engine: backends.Engine) -> bool:
     script = str(page.evaluate("import('./records.js').then(({script}) => script(app.script()))"))
     shown = page.evaluate("app.asker.answered.map(({lines}) => lines.join('\\n') + '\\n').join('')")
-    return bool(shown == answers_to(make, script))
+    return bool(shown == answers_to(engine, script))
 
 
 def main() -> None:
@@ -126,14 +127,14 @@ def main() -> None:
     chosen = options.parse_args()
     if not found():
         sys.exit('Chromium is not there')
-    who, make = backends.choose(chosen.program)
-    served = server.Server(0, '', make, who)
+    engine = backends.chosen(chosen.program)
+    served = server.Server(0, '', engine)
     server.serve_aside(served)
     browser = Browser()
     page = browser.page()
     page.go(served.address)
     page.evaluate(COUNT)
-    print(f'Answered by {who}, in answers a second')
+    print(f'Answered by {engine.name}, in answers a second')
     print(f'{"polygon":10}{"vertices":>9}  {"dragged":8}{"mouse":>8}{"flood":>8}{"waiting":>9}')
     shapes: Dict[str, Any] = {'star': inputs.star, 'maze': inputs.maze, 'spiral': inputs.spiral}
     for size in map(int, chosen.sizes.split(',')):
@@ -143,7 +144,7 @@ def main() -> None:
                 page.evaluate('globalThis.most = 0')
                 mouse, flood = Drag(page, ring, tool).run(chosen.seconds)
                 waiting = page.evaluate('globalThis.most')
-                right = '' if is_right(page, make) else '  WRONG'
+                right = '' if is_right(page, engine) else '  WRONG'
                 fast = '' if math.isnan(flood) else f'{flood:.0f}'
                 print(f'{name:10}{len(ring):9,}  {tool:8}{mouse:8.0f}{fast:>8}{waiting:9}{right}', flush=True)
     browser.close()

@@ -2,6 +2,8 @@
 neither the library nor the program is built."""
 from __future__ import annotations
 
+import csv
+import io
 import json
 import os
 import re
@@ -11,12 +13,13 @@ import time
 import unittest
 from pathlib import Path
 from tempfile import TemporaryDirectory
-from typing import Any, Dict, List, Optional, Tuple
+from typing import Dict, List, Optional, Tuple
 
 from browser import Browser, Page, found
 from places import EXAMPLES, TOP, answering, answers_to
 
-from explorer import opening, seam, server
+from geo_exact import backends
+from geo_exact.explorer import opening, server
 
 Place = Tuple[int, int]
 L: List[Place] = [(0, 0), (4, 0), (4, 2), (2, 2), (2, 4), (0, 4)]
@@ -38,8 +41,8 @@ RATIO = """(() => {
 def setUpModule() -> None:
     if not found():
         raise unittest.SkipTest('Chromium is not there, so the page is not tried in a browser')
-    global browser, who, make
-    who, make = answering()
+    global browser, engine
+    engine = answering()
     browser = Browser()
 
 
@@ -48,8 +51,14 @@ def tearDownModule() -> None:
 
 
 browser: Browser
-who: str
-make: Any
+engine: backends.Engine
+
+
+def written(rows: List[List[str]]) -> str:
+    """Returns records as the lines of a script."""
+    text = io.StringIO()
+    csv.writer(text, lineterminator='\n').writerows(rows)
+    return text.getvalue()
 
 
 class Opened(unittest.TestCase):
@@ -59,7 +68,7 @@ class Opened(unittest.TestCase):
 
     def setUp(self) -> None:
         start = opening.opened(self.opens, (EXAMPLES / self.opens).read_bytes()) if self.opens else None
-        self.server = server.Server(0, '', make, who, start)
+        self.server = server.Server(0, '', engine, start)
         thread = server.serve_aside(self.server)
         self.addCleanup(self.server.sessions.end_all)
         self.addCleanup(self.server.server_close)
@@ -112,7 +121,7 @@ class Opened(unittest.TestCase):
     def is_right(self) -> None:
         """The answers on the page are those that the script has."""
         self.settle()
-        self.assertEqual(self.shown(), answers_to(make, self.script()))
+        self.assertEqual(self.shown(), answers_to(engine, self.script()))
 
     def saved(self, button: str, name: str) -> str:
         """The file that a button gives."""
@@ -129,7 +138,7 @@ class Opened(unittest.TestCase):
 class Newcomer(Opened):
     def test_the_page_begins_with_a_way(self) -> None:
         self.assertEqual(self.page.text('#said'), 'The way has 3 points: (1,\u00a04) → (2,\u00a02) → (4,\u00a01).')
-        self.assertIn(who, self.page.text('#who'))
+        self.assertIn(engine.name, self.page.text('#who'))
         self.is_right()
 
     def test_draws_the_l_and_clicks_a_way(self) -> None:
@@ -251,7 +260,7 @@ class Tools(Opened):
 
         def sees(dx: int, dy: int) -> List[bool]:
             script = polygon + '\n' + ''.join(f'path,{see[1]},{see[2]},{x + dx},{y + dy}\n' for x, y in grid)
-            return [line.startswith('path,2,') for line in answers_to(make, script).split('\n')[1:-1]]
+            return [line.startswith('path,2,') for line in answers_to(engine, script).split('\n')[1:-1]]
 
         told = [sees(dx, dy) for dx in (-60, 60) for dy in (-60, 60)]
         seen = {place: all(four) for place, four in zip(grid, zip(*told)) if len(set(four)) == 1}
@@ -378,9 +387,9 @@ class Teacher(Opened):
             self.page.pick('#examples', it['name'])
             self.page.until(f'app.store.state.name === {json.dumps(it["name"])}')
             script = self.script()
-            self.assertEqual(self.page.evaluate('app.menu.answers()'), answers_to(make, script), it['name'])
+            self.assertEqual(self.page.evaluate('app.menu.answers()'), answers_to(engine, script), it['name'])
             if not it['name'].startswith('data/'):
-                self.assertEqual(script, seam.written(opening.opened('', (EXAMPLES / it['name']).read_bytes())['records']).decode(), it['name'])
+                self.assertEqual(script, written(opening.opened('', (EXAMPLES / it['name']).read_bytes())['records']), it['name'])
 
     def test_an_address_brings_the_state_back(self) -> None:
         self.page.press('.version label:has([value="2"])')

@@ -3,6 +3,7 @@ the program is skipped where neither is built."""
 from __future__ import annotations
 
 import json
+import os
 import re
 import signal
 import socket
@@ -15,41 +16,49 @@ from http.client import HTTPConnection
 from pathlib import Path
 from tempfile import TemporaryDirectory
 from typing import Any, Dict, List, Optional, Tuple
-from unittest import mock
 
-from places import EXAMPLES, TOP, WEB, answering, answers_to
+from places import EXAMPLES, TOP, WEB
 
-from explorer import backends, opening, seam, server, sessions
+from geo_exact import GeoMemoryError, TooLong
+from geo_exact.backends import BYTES
+from geo_exact.explorer import opening, server, sessions
+from geo_exact.fault import Fault
 
 TOKEN = 'token-of-the-tests-1'
-LIMIT = backends.LIMIT
 SQUARE = 'polygon,0,0,4,0,4,4,0,4\n'
 
 
 class Echo:
-    """Answers with what it was asked, on one thread alone."""
+    """A dialog that answers with what it was asked, on one thread alone."""
 
     def __init__(self) -> None:
         self.thread = threading.current_thread()
-        self.asked = b''
-        self.wait: Optional[threading.Event] = None
-
-    def begin(self) -> None:
         self.asked = b''
 
     def answer(self, script: bytes) -> bytes:
         assert threading.current_thread() is self.thread
         if script.startswith(b'slow'):
             time.sleep(0.4)
-        if script.startswith(b'fault'):
-            raise ValueError('a fault')
-        if script.startswith(b'memory'):
-            raise backends.no_memory()
+        raised = {b'fault': ValueError('a bug'), b'memory': GeoMemoryError(), b'length': TooLong(), b'program': Fault('a failure')}
+        if script in raised:
+            raise raised[script]
         self.asked += script
         return self.asked
 
     def close(self) -> None:
         closed.append(self.thread.name)
+
+
+class Echoes:
+    """An engine whose dialogs are echoes, and which answers each script with one text."""
+
+    name, text = 'an echo', b'polygon,4\n'
+
+    def opened(self) -> Any:
+        return Echo()
+
+    def answer_script(self, script: bytes) -> bytes:
+        return self.text
 
 
 closed: List[str] = []
@@ -59,7 +68,7 @@ class Served(unittest.TestCase):
     """A server that echoes."""
 
     def setUp(self) -> None:
-        self.server = server.Server(0, TOKEN, Echo, 'an echo')
+        self.server = server.Server(0, TOKEN, Echoes())
         thread = server.serve_aside(self.server)
         self.addCleanup(self.server.server_close)
         self.addCleanup(thread.join)
@@ -138,7 +147,7 @@ HOSTILE: List[Tuple[str, str, int, str]] = [
     ('CONNECT', request('CONNECT example.org:443 HTTP/1.1', HOST), 403, 'token'),
     ('a method that is none', request(f'__init__ /{TOKEN}/ HTTP/1.1', HOST), 405, 'method'),
     ('a body without its length', request(ASK, HOST), 411, 'length'),
-    ('a body that is too long', request(ASK, HOST, f'Content-Length: {LIMIT + 1}'), 413, 'length'),
+    ('a body that is too long', request(ASK, HOST, f'Content-Length: {BYTES + 1}'), 413, 'length'),
     ('a body without end', request(ASK, HOST, 'Content-Length: 99999999999999999999'), 413, 'length'),
     ('a length of a thousand digits', request(ASK, HOST, f'Content-Length: {"9" * 1000}'), 400, 'length'),
     ('a length below nothing', request(ASK, HOST, 'Content-Length: -1'), 400, 'length'),
@@ -189,7 +198,7 @@ class Hostile(Served):
     def test_tokens_are_new_and_long(self) -> None:
         tokens = set()
         for _ in range(2):
-            made = server.Server(0, '', Echo, '')
+            made = server.Server(0, '', Echoes())
             tokens.add(made.token)
             made.server_close()
         self.assertEqual((len(tokens), min(map(len, tokens)) >= 20), (2, True))
@@ -243,8 +252,8 @@ class Sessions(Served):
 
     def test_failures_have_their_status_and_the_session_goes_on(self) -> None:
         self.ask('begin/session-1', 'a')
-        for script, status, word in [('memory', 503, 'memory'), ('fault', 500, 'fault')]:
-            reply = self.ask('more/session-1', script)
+        for word, status in [('memory', 503), ('length', 413), ('program', 502), ('fault', 500)]:
+            reply = self.ask('more/session-1', word)
             self.assertEqual((reply[0], reply[2]['X-Refused']), (status, word))
         self.assertEqual(self.ask('more/session-1', 'b')[1], 'ab')
 
@@ -301,8 +310,8 @@ class Opening(Served):
     def test_texts(self) -> None:
         for text, records in [
             ('polygon,0,0,4,0,4,4\nsee,1,1\n', [['polygon', '0', '0', '4', '0', '4', '4'], ['see', '1', '1']]),
-            (f'{{"type": "Polygon", "coordinates": [{RING}]}}', [['polygon', '-2', '-2', '2', '-2', '2', '2']]),
-            ('\ufeffPOLYGON ((0 0, 4 0, 4 4, 0 0))', [['polygon', '-2', '-2', '2', '-2', '2', '2']]),
+            (f'{{"type": "Polygon", "coordinates": [{RING}]}}', [['polygon', '0', '0', '4', '0', '4', '4']]),
+            ('\ufeffPOLYGON ((0 0, 4 0, 4 4, 0 0))', [['polygon', '0', '0', '4', '0', '4', '4']]),
             ('polygon\nPOINT,1\n', [['polygon'], ['POINT', '1']]),
             ('', []),
             ('"' + 'x' * 200_000, [['x' * 200_000]]),
@@ -328,20 +337,10 @@ class Opening(Served):
 
     def test_geojson(self) -> None:
         body = json.dumps({'script': SQUARE, 'frame': {'origin': ['8', '0'], 'scale': '10'}})
-        with mock.patch.object(self.server, 'make', lambda: Fixed(b'polygon,4\n')):
-            status, said, _ = self.ask('geojson', body)
+        status, said, _ = self.ask('geojson', body)
         self.assertEqual((status, json.loads(said)['features'][0]['geometry']['coordinates'][0][1]), (200, [8.4, 0]))
-
-
-class Fixed(Echo):
-    """Answers with one text."""
-
-    def __init__(self, text: bytes):
-        super().__init__()
-        self.text = text
-
-    def answer(self, script: bytes) -> bytes:
-        return self.text
+        self.assertEqual(self.ask('geojson', body.replace('"10"', '"0"'))[0], 400)
+        self.assertEqual(self.ask('geojson', body.replace('polygon,', 'polygon,0,0\\npolygon,'))[0], 422)
 
 
 # A program that answers each record with its own word, and a polygon as one that is simple.
@@ -368,28 +367,6 @@ class Programs(unittest.TestCase):
         self.program.write_text(STUB)
         self.program.chmod(0o755)
 
-    def test_what_a_session_keeps_is_asked_again(self) -> None:
-        backend = backends.ProgramBackend(self.program)
-        backend.begin()
-        for script, answers, kept in [
-            (b'geo,2\npolygon,0,0,1,0,0,1\nkernel\n', b'geo,2\npolygon,3\nkernel,0\n', ['geo', 'polygon']),
-            (b'tree,0,0\n', b'tree,1\nfrom,0,s\n', ['geo', 'polygon', 'tree']),
-            (b'reach,1,0\ntree,1,1\n', b'reach\ntree,1\nfrom,0,s\n', ['geo', 'polygon', 'tree']),
-            (b'polygon,0,0\n', b'bad,few\n', ['geo', 'polygon', 'tree']),
-            (b'polygon,0,0,1,0,1,1,0,1\n', b'polygon,4\n', ['geo', 'polygon']),
-        ]:
-            self.assertEqual(backend.answer(script), answers)
-            self.assertEqual([row[0] for row in backend._kept], kept)
-        backend.begin()
-        self.assertEqual((backend.answer(b'see,1,1\n'), backend._kept), (b'see,0\n', []))
-
-    def test_statuses(self) -> None:
-        for status, name in [(3, 'length'), (5, 'memory'), (9, 'program')]:
-            self.program.write_text(f'#!/bin/sh\ncat > /dev/null\nexit {status}\n')
-            with self.assertRaises(backends.NotAnswered) as caught:
-                backends.ProgramBackend(self.program).answer(b'x\n')
-            self.assertEqual(caught.exception.name, name)
-
     def test_ctrl_c_ends_it_cleanly(self) -> None:
         words = [sys.executable, str(TOP / 'tools/explore'), '--no-browser', '--program', str(self.program)]
         with subprocess.Popen(words, stdout=subprocess.PIPE, stderr=subprocess.PIPE, text=True, preexec_fn=heed_ctrl_c) as made:
@@ -407,40 +384,16 @@ class Programs(unittest.TestCase):
 
     def test_words_that_are_refused(self) -> None:
         for words, text in [
-            (['--port', '70000'], 'a port is a number'), (['--token', 'short'], 'a token has at least'), (['missing'], 'No such file'),
-            ([str(EXAMPLES)], 'Is a directory'), ([str(EXAMPLES / 'data/lake.geojson'), '--program', 'missing'], 'there is no program'),
+            (['--port', '70000'], '--port: a port is a number'), (['--token', 'short'], '--token: a token has at least'),
+            (['missing'], 'missing: no such file'), ([str(EXAMPLES)], f'{EXAMPLES}: is a directory'),
+            (['--program', 'missing'], "'missing' can not be run: no such file"),
         ]:
-            given = [sys.executable, str(TOP / 'tools/explore'), '--no-browser', '--program', str(self.program), *words]
-            made = subprocess.run(given, capture_output=True, text=True, timeout=60, check=False)
-            self.assertIn(text, made.stderr, words)
-            self.assertNotIn('Traceback', made.stderr)
+            given = [sys.executable, str(TOP / 'tools/explore'), '--no-browser', *words]
+            named = {**os.environ, 'GEO_PROGRAM': str(self.program)}
+            made = subprocess.run(given, capture_output=True, text=True, timeout=60, check=False, env=named)
+            self.assertEqual((made.stderr.count('\n'), made.stderr[:9]), (1, 'explore: '), made.stderr)
+            self.assertIn(text, made.stderr)
             self.assertNotEqual(made.returncode, 0)
-
-    def test_where_nothing_is_built_it_is_said_how_to_build(self) -> None:
-        with TemporaryDirectory() as folder, mock.patch.object(backends, 'PROGRAM', Path(folder) / 'geo'), \
-                mock.patch('importlib.import_module', side_effect=ImportError):
-            with self.assertRaises(SystemExit) as caught:
-                backends.choose('')
-        self.assertIn('clients/python/build', str(caught.exception))
-
-
-class Answers(unittest.TestCase):
-    """Who answers, whether the library or the program, answers as the examples say."""
-
-    def test_examples_whole_and_in_pieces(self) -> None:
-        _, make = answering()
-        for file in sorted(EXAMPLES.glob('*.stdout')):
-            script = file.with_suffix('')
-            if file.with_suffix('.args').exists():
-                continue
-            records = opening.opened('', script.read_bytes())['records']
-            wanted = file.read_text()
-            self.assertEqual(answers_to(make, seam.written(records).decode()), wanted, script.name)
-            backend = make()
-            backend.begin()
-            pieces = [backend.answer(seam.written([record])).decode() for record in records]
-            backend.close()
-            self.assertEqual(''.join(pieces), wanted, script.name)
 
 
 if __name__ == '__main__':
