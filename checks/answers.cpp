@@ -168,6 +168,15 @@ static void all_at_once(geo::Session &session, const std::vector<Point> &ends) {
             throw std::logic_error("a place of many differs from the place asked alone");
         }
     }
+    bool is_refused = false;
+    try {
+        session.paths({{0, 0}});
+    } catch (const std::invalid_argument &) {
+        is_refused = true;
+    }
+    if (!is_refused) {
+        throw std::logic_error("paths takes an odd number of points");
+    }
 }
 
 int main(int count, char **words) {
