@@ -30,17 +30,17 @@ module _ (s : Side) (outer inner high low : Tree) (middle value : ℕ) (fork : I
   values new t is all = all ∙ ap (around s outer.items middle) is ∙ around_twice s outer.items inner.items low.items middle value
       ∙ ap (λ xs. around s xs value low.items) (sym fork.items)
 
-  -- a tree one or two higher than another one, turned where its outer part is not lower,
-  pub turned_once : (new t : Tree) → low.height < high.height → high.height ≤ low.height + 2 → inner.height ≤ outer.height
-      → IsFork s inner value low new → IsFork s outer middle new t → IsJoinedTree s high value low t
-  turned_once new t higher near not_lower is all = record {
+  -- a tree two higher than another one, turned where its outer part is not lower,
+  pub turned_once : (new t : Tree) → high.height ≡ low.height + 2 → inner.height ≤ outer.height → IsFork s inner value low new → IsFork s outer middle new t
+      → IsJoinedTree s high value low t
+  turned_once new t two not_lower is all = record {
     items = values new.items t.items is.items all.items;
     not_lower = omega (arith, fork.height, is.height, all.height);
     at_most_one_higher = omega (arith, fork.height, is.height, all.height);
-    as_fork = λ one. omega (arith, one.0, fork.height, is.height, all.height);
+    as_fork = λ near. absurd (omega (arith, near.0));
   }
 
-  -- and two higher where it is lower
+  -- and where it is lower
   pub turned_twice : (t : Tree) → high.height ≡ low.height + 2 → outer.height < inner.height → IsTurnedTree s outer middle inner value low t
       → IsJoinedTree s high value low t
   turned_twice t two lower is = record {

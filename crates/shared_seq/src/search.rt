@@ -1,3 +1,4 @@
+// A list that is searched: the value at a place, and the parts before and after a value.
 ghost use Rattle.std.specs.Prelude.{◌≡◌, ◌+◌, ◌-◌, ◌^◌, ◌<◌, ◌≤◌, ◌↔◌, [], min, IfSome, IsNone, length, slice_index};
 ghost use Rattle.shared_seq.specs.Search.{AreHalves};
 ghost use Rattle.shared_seq.specs.Tree.{lent_at};
@@ -105,5 +106,24 @@ fn last<L: Ledger>(tree: &Rc<Node>, steps: &mut Steps<L>) -> u32
     match right {
         Some(right) => last(right, steps),
         None => value,
+    }
+}
+
+// The value at i.
+pub(crate) fn get<L: Ledger>(tree: &Rc<Node>, i: usize, steps: &mut Steps<L>) -> u32
+    requires { i < length tree.now.value.items }
+    ensures value { result ≡ slice_index tree.now.value.items i }
+    ensures steps { steps.new ≤ steps.old + tree.now.value.height }
+{
+    let Parts {
+        one: left,
+        value,
+        other: right,
+    } = tree.parts(Side::Left, steps);
+    let before = count(left);
+    match (left, right) {
+        (Some(left), _) if i < before => get(left, i, steps),
+        (_, Some(right)) if before < i => get(right, i - before - 1, steps),
+        _ => value,
     }
 }

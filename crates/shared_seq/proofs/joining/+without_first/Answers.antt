@@ -1,7 +1,7 @@
 use Rattle.std.proofs.Common.{length, ap, arith}
 use Rattle.shared_seq.specs.Tree.{lent_at, tree_at}
 use Rattle.shared_seq.proofs.Turns.{without_first, without_first_height}
-use Rattle.shared_seq.proofs.tree.+without_first.Goals as goal
+use Rattle.shared_seq.proofs.joining.+without_first.Goals as goal
 
 pub balance_with-requires : goal.balance_with-requires
 balance_with-requires g t c =

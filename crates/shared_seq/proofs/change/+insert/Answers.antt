@@ -1,7 +1,7 @@
 use Rattle.std.proofs.lemmas.Result.{IfOk-weaker}
 use Rattle.shared_seq.specs.Tree.{lent_at}
 use Rattle.shared_seq.proofs.Places.{inserted}
-use Rattle.shared_seq.proofs.tree.+insert.Goals as goal
+use Rattle.shared_seq.proofs.change.+insert.Goals as goal
 
 pub returns-clause-items : goal.returns-clause-items
 returns-clause-items g t c =

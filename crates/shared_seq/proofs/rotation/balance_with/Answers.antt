@@ -1,4 +1,4 @@
-use Rattle.shared_seq.proofs.tree.balance_with.Goals as goal
+use Rattle.shared_seq.proofs.rotation.balance_with.Goals as goal
 
 pub balance-requires : goal.balance-requires
 balance-requires g c = rw c.in_ok-other.ensures c.requires

@@ -2,7 +2,7 @@ use Rattle.std.proofs.Common.{arith}
 use Rattle.std.proofs.lemmas.Result.{IfOk-weaker}
 use Rattle.shared_seq.specs.Tree.{lent_at, tree_at}
 use Rattle.shared_seq.proofs.Turns.{turned_inner}
-use Rattle.shared_seq.proofs.tree.turn_inner.Goals as goal
+use Rattle.shared_seq.proofs.rotation.turn_inner.Goals as goal
 
 pub beside-requires : goal.beside-requires
 beside-requires g c =
@@ -38,8 +38,8 @@ returns-clause-turned g c =
     let it = c.parts-top.result in
     let fork = rw c.deref.ensures at c.parts-top.ensures.fork in
     IfOk-weaker c.fork.result _ _
-    (λ new all. turned_inner c.args.side (lent_at c.args.outer.0) (lent_at it.one) (lent_at it.other) c.args.inner.now.value (tree_at c.args.low)
-    c.in_ok-one.one.value c.in_ok-other.other.value new.value c.args.outer.1 it.value c.args.value fork c.requires.outer c.requires.low
+    (λ new all. turned_inner c.args.outer.side (lent_at c.args.outer.part) (lent_at it.one) (lent_at it.other) c.args.inner.now.value (tree_at c.args.low)
+    c.in_ok-one.one.value c.in_ok-other.other.value new.value c.args.outer.value it.value c.args.value fork c.requires.outer c.requires.low
     (rw c.in_ok-first.ensures at c.in_ok-one.ensures.fork) c.in_ok-other.ensures.fork all)
     c.fork.ensures.fork
 

@@ -1,7 +1,7 @@
 use Rattle.std.proofs.Common.{length, ap, arith}
 use Rattle.shared_seq.specs.Tree.{lent_at, tree_at}
 use Rattle.shared_seq.proofs.Turns.{joined_height, joined_items}
-use Rattle.shared_seq.proofs.tree.both.Goals as goal
+use Rattle.shared_seq.proofs.joining.both.Goals as goal
 
 pub balance_beside-requires : goal.balance_beside-requires
 balance_beside-requires g c =
