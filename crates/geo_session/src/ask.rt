@@ -155,7 +155,7 @@ impl Held {
 }
 
 // Keeps what changes.
-pub(crate) fn commit(alloc: Global, two: &mut bool, held: &mut Option<Held>, change: Change)
+pub(crate) fn commit(two: &mut bool, held: &mut Option<Held>, change: Change)
     requires { Suits change held.old }
     ensures version { version_of two.new ≡ version_after change (version_of two.old) }
     ensures held { held.new ≡ held_after change held.old }
@@ -169,7 +169,7 @@ pub(crate) fn commit(alloc: Global, two: &mut bool, held: &mut Option<Held>, cha
         Change::Polygon(new) => *held = Some(Box::into_inner(new)),
         Change::Tree(grown) => {
             if let Some(held) = held {
-                held.keep(alloc, grown);
+                held.keep(grown);
             }
         }
         Change::Table(table) => {

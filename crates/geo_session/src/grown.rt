@@ -61,11 +61,6 @@ impl Grown {
         })
     }
 
-    // Drops it.
-    pub(crate) fn give_back(self, alloc: Global) {
-        self.tree.give_back(alloc);
-    }
-
     // What comes before each vertex on its path from the source, by the list that the ring was made of.
     fn befores(&self, alloc: Global, ring: &Ring) -> Result<Vec<Before>, Memory>
         requires { (tris : List Tri) × IsTreeOf ring.now.corners tris self.now }

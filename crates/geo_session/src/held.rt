@@ -69,13 +69,11 @@ impl Held {
     }
 
     // Keeps a tree in the place of the one before.
-    pub(crate) fn keep(&mut self, alloc: Global, grown: Grown)
+    pub(crate) fn keep(&mut self, grown: Grown)
         requires { IsTreeOf self.old.ring.corners self.old.tris grown }
         ensures { self.new ≡ record { ring = self.old.ring; tris = self.old.tris; source = Some grown.source; prepared = self.old.prepared } }
     {
-        if let Some(before) = self.grown.replace(grown) {
-            before.give_back(alloc);
-        }
+        self.grown = Some(grown);
     }
 
     // Keeps the table of all pairs.

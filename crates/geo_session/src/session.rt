@@ -141,7 +141,7 @@ impl Session {
         ensures paced { IsPaced self.old command steps.old steps.new }
     {
         let asked = ask(alloc, self.version(), &self.held, command, steps)?;
-        commit(alloc, &mut self.two, &mut self.held, asked.change);
+        commit(&mut self.two, &mut self.held, asked.change);
         Ok(asked.reply)
     }
 
@@ -202,7 +202,7 @@ impl Session {
     {
         let asked = ask(alloc, self.version(), &self.held, command, steps)?;
         put_reply(out, &asked.reply, steps)?;
-        commit(alloc, &mut self.two, &mut self.held, asked.change);
+        commit(&mut self.two, &mut self.held, asked.change);
         Ok(())
     }
 }

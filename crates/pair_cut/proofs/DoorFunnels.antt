@@ -19,13 +19,13 @@ use Rattle.tri_mesh.specs.Outward.{at_place}
 use Rattle.tri_mesh.specs.declared.outward.Outward.{Outward}
 use Rattle.funnels.proofs.Trees.{before_differs}
 use Rattle.funnels.proofs.Vertices.{fitted_simple}
-use Rattle.shared_funnel.proofs.NextFunnels.{beyond_at, earlier, ends_at, toward_below, few_points, funnel_from_home, funnel_on_left}
-use Rattle.shared_funnel.proofs.NextFunnels.{funnel_on_right}
-use Rattle.shared_funnel.proofs.FunnelNumbers.{first_at_left, first_at_right, first_between, funnel_to_left, funnel_to_right, corner_point}
-use Rattle.shared_funnel.proofs.FunnelNumbers.{point_there, source_point}
-use Rattle.shared_funnel.proofs.Doors.{corner_below}
-use Rattle.shared_funnel.specs.Entered.{IsFromStart, IsFunnelTo, left_of, right_of, third_of, toward}
-use Rattle.shared_funnel.specs.Listed.{Listed, point_of, listed_points}
+use Rattle.path_tree.proofs.NextFunnels.{beyond_at, earlier, ends_at, toward_below, few_points, funnel_from_home, funnel_on_left}
+use Rattle.path_tree.proofs.NextFunnels.{funnel_on_right}
+use Rattle.path_tree.proofs.FunnelNumbers.{first_at_left, first_at_right, first_between, funnel_to_left, funnel_to_right, corner_point}
+use Rattle.path_tree.proofs.FunnelNumbers.{point_there, source_point}
+use Rattle.path_tree.proofs.Doors.{corner_below}
+use Rattle.path_tree.specs.Entered.{IsFromStart, IsFunnelTo, left_of, right_of, third_of, toward}
+use Rattle.path_tree.specs.Listed.{Listed, point_of, listed_points}
 use Rattle.pair_cut.proofs.FunnelPaths.{apex_alone, before_on_left, before_on_right}
 use Rattle.pair_cut.specs.Climbs.{AreClimbs, IsClimb, IsVertexAt, from_left, from_right}
 use Rattle.pair_cut.specs.Doors.{HasFunnel, IsApex, IsGrownTo, IsOnWay, IsSeen, IsTangentTo}

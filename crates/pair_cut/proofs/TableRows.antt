@@ -24,13 +24,13 @@ use Rattle.funnels.proofs.Vertices.{fitted_long, fitted_simple}
 use Rattle.tri_mesh.specs.Outward.{IsOutward, at_place}
 use Rattle.tri_mesh.specs.declared.outward.Outward.{Outward}
 use Rattle.shared_seq.specs.Digits.{binary_digits}
-use Rattle.shared_funnel.proofs.NextFunnels.{beyond_at, corner_had, from_start, third_below}
-use Rattle.shared_funnel.proofs.FunnelNumbers.{point_there}
-use Rattle.shared_funnel.proofs.ReachedBefore.{before_third}
-use Rattle.shared_funnel.proofs.StepCounts.{home_steps, three_digits}
-use Rattle.shared_funnel.proofs.Doors.{corner_below}
-use Rattle.shared_funnel.specs.Entered.{IsFromStart, left_of, right_of, third_of}
-use Rattle.shared_funnel.specs.Listed.{point_of}
+use Rattle.path_tree.proofs.NextFunnels.{beyond_at, corner_had, from_start, third_below}
+use Rattle.path_tree.proofs.FunnelNumbers.{point_there}
+use Rattle.path_tree.proofs.ReachedBefore.{before_third}
+use Rattle.path_tree.proofs.StepCounts.{home_steps, three_digits}
+use Rattle.path_tree.proofs.Doors.{corner_below}
+use Rattle.path_tree.specs.Entered.{IsFromStart, left_of, right_of, third_of}
+use Rattle.path_tree.specs.Listed.{point_of}
 use Rattle.pair_cut.specs.Doors.{IsGrownTo, IsTangentTo, tangent_at}
 use Rattle.pair_cut.specs.Pairs.{IsBeforeVertex, IsMadeFor, pair_before}
 use Rattle.pair_cut.specs.Rows.{AreRows, IsNumberBefore, IsRow, IsTable}

@@ -9,8 +9,8 @@ use Rattle.meshes.specs.Side.{tri_at, HasCorner}
 use Rattle.meshes.specs.declared.tri.Tri.{Tri}
 use Rattle.tri_mesh.specs.Outward.{at_place}
 use Rattle.tri_mesh.specs.declared.outward.Outward.{Outward}
-use Rattle.shared_funnel.specs.Entered.{IsFunnelTo, third_of}
-use Rattle.shared_funnel.specs.Listed.{Listed, listed_points}
+use Rattle.path_tree.specs.Entered.{IsFunnelTo, third_of}
+use Rattle.path_tree.specs.Listed.{Listed, listed_points}
 use Rattle.pair_cut.specs.Climbs.{IsTangent, IsVertexAt}
 use Rattle.pair_cut.specs.Rows.{IsNumberBefore}
 use Rattle.pair_cut.specs.declared.climb.Tangent.{Tangent}

@@ -6,7 +6,7 @@ ghost use Rattle.exact_plane.specs.Direction.{turn_of};
 ghost use Rattle.pair_cut.specs.Climbs.{AreClimbs, IsClimb, IsTangentVertex, IsTangent};
 
 use exact_plane::{Direction, Spot, Steps, Turns};
-use shared_funnel::Door;
+use path_tree::Door;
 use std::sync::ledger::Ledger;
 
 // How the third corner behind a door is reached.
@@ -17,6 +17,13 @@ pub(crate) struct Tangent {
     // The apexes of the two doors beyond: of that from the left end to the corner, on the right, and of the other one.
     pub(crate) right: u32,
     pub(crate) left: u32,
+}
+
+// An end of a door and its apex, which the predecessors of the end lead to.
+#[derive(Clone, Copy)]
+struct Ascent {
+    end: u32,
+    apex: u32,
 }
 
 // The tangent of the third corner behind a door with this apex.
@@ -33,30 +40,22 @@ pub(crate) fn tangent_of<T: Turns, L: Ledger>(
         → IsTangent (T.corners board.now) points place (vertex (T.corners board.now) door.third) result }
     ensures steps { steps.new ≤ steps.old + length (T.corners board.now) }
 {
-    if let Some(near) = climb(
-        board,
-        before,
-        door.left,
+    let ascent = Ascent {
+        end: door.left,
         apex,
-        door.third,
-        Direction::Left,
-        steps,
-    ) {
+    };
+    if let Some(near) = climb(board, before, ascent, door.third, Direction::Left, steps) {
         return Tangent {
             near,
             right: near,
             left: apex,
         };
     }
-    if let Some(near) = climb(
-        board,
-        before,
-        door.right,
+    let ascent = Ascent {
+        end: door.right,
         apex,
-        door.third,
-        Direction::Right,
-        steps,
-    ) {
+    };
+    if let Some(near) = climb(board, before, ascent, door.third, Direction::Right, steps) {
         return Tangent {
             near,
             right: apex,
@@ -75,21 +74,20 @@ pub(crate) fn tangent_of<T: Turns, L: Ledger>(
 fn climb<T: Turns, L: Ledger>(
     board: &T,
     before: &[u32],
-    end: u32,
-    apex: u32,
+    ascent: Ascent,
     third: u32,
     side: Direction,
     steps: &mut Steps<L>,
 ) -> Option<u32>
     requires third { third < length (T.corners board.now) }
-    requires climb { (points : ℕ → Point) × (count : ℕ) × IsClimb (T.corners board.now) before.now end apex points count }
-    ensures found { (points : ℕ → Point) (count : ℕ) → IsClimb (T.corners board.now) before.now end apex points count
+    requires climb { (points : ℕ → Point) × (count : ℕ) × IsClimb (T.corners board.now) before.now ascent.end ascent.apex points count }
+    ensures found { (points : ℕ → Point) (count : ℕ) → IsClimb (T.corners board.now) before.now ascent.end ascent.apex points count
         → IsTangentVertex (T.corners board.now) points count (vertex (T.corners board.now) third) side result }
-    ensures steps { (points : ℕ → Point) (count : ℕ) → IsClimb (T.corners board.now) before.now end apex points count
+    ensures steps { (points : ℕ → Point) (count : ℕ) → IsClimb (T.corners board.now) before.now ascent.end ascent.apex points count
         → steps.new + 1 ≤ steps.old + count }
 {
-    let mut at = end;
-    while at != apex {
+    let mut at = ascent.end;
+    while at != ascent.apex {
         let next = before[at as usize];
         if bends(board, next, at, third, side, steps) {
             return Some(at);

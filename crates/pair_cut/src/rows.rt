@@ -6,14 +6,14 @@ ghost use Rattle.meshes.specs.Fits.{Fits};
 ghost use Rattle.meshes.specs.Side.{tri_at, HasCorner};
 ghost use Rattle.tri_mesh.specs.Outward.{IsOutward, at_place};
 ghost use Rattle.shared_seq.specs.Digits.{binary_digits};
-ghost use Rattle.shared_funnel.specs.Entered.{IsFromStart};
+ghost use Rattle.path_tree.specs.Entered.{IsFromStart};
 ghost use Rattle.pair_cut.specs.Doors.{IsApex, IsGrownTo};
 ghost use Rattle.pair_cut.specs.Rows.{IsRow};
 ghost use Rattle.pair_cut.specs.declared.table.TheConstants.{MAX_PAIRED};
 
 use crate::climb::{Tangent, tangent_of};
 use exact_plane::{Memory, Steps, Turns};
-use shared_funnel::door_of;
+use path_tree::door_of;
 use std::alloc::Global;
 use std::sync::ledger::Ledger;
 use tri_mesh::{Mesh, Outward, triangle_at};

@@ -23,12 +23,12 @@ use Rattle.exact_plane.specs.declared.turns.Spot.{Spot}
 use Rattle.exact_plane.specs.declared.turns.Spot.TheVariants.{Corner, Start}
 use Rattle.tri_mesh.specs.Outward.{IsOutward, at_place}
 use Rattle.tri_mesh.specs.declared.outward.Outward.{Outward}
-use Rattle.shared_funnel.proofs.NextFunnels.{apart, beyond_at, corner_had, from_start, third_below}
-use Rattle.shared_funnel.proofs.FunnelNumbers.{corner_point, source_point}
-use Rattle.shared_funnel.proofs.ReachedBefore.{before_third, before_point, number_of_source}
-use Rattle.shared_funnel.proofs.Doors.{corner_below}
-use Rattle.shared_funnel.specs.Entered.{IsFromStart, IsFunnelTo, left_of, right_of, third_of}
-use Rattle.shared_funnel.specs.Listed.{IsTriangleBeyond, IsFunnelAt, Listed, point_of, listed_points}
+use Rattle.path_tree.proofs.NextFunnels.{apart, beyond_at, corner_had, from_start, third_below}
+use Rattle.path_tree.proofs.FunnelNumbers.{corner_point, source_point}
+use Rattle.path_tree.proofs.ReachedBefore.{before_third, before_point, number_of_source}
+use Rattle.path_tree.proofs.Doors.{corner_below}
+use Rattle.path_tree.specs.Entered.{IsFromStart, IsFunnelTo, left_of, right_of, third_of}
+use Rattle.path_tree.specs.Listed.{IsTriangleBeyond, IsFunnelAt, Listed, point_of, listed_points}
 use Rattle.path_tree.specs.Growing.{AreThirdPlaces, IsGrownOver, IsThirdFrom, KeepsFunnelTo}
 use Rattle.path_tree.specs.Grown.{IsFromNamed, Names, IsEntered, IsGrownFrom, KeepsFunnel, NamedTree, funnel_at, before_at}
 

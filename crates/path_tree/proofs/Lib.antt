@@ -1,4 +1,11 @@
-pub mod GrownOver
-pub mod GrownPaths
-pub mod TreeFunnels
-pub mod TreeSteps
+pub mod Doors
+pub mod FunnelNumbers
+mod GrownOver
+mod GrownPaths
+mod Halving
+mod Lists
+pub mod NextFunnels
+pub mod ReachedBefore
+pub mod StepCounts
+mod TreeFunnels
+mod TreeSteps

@@ -5,9 +5,9 @@ use Rattle.plane.specs.Point.{Point}
 use Rattle.meshes.specs.declared.tri.Tri.{Tri}
 use Rattle.tri_mesh.specs.Outward.{at_place}
 use Rattle.tri_mesh.specs.declared.outward.Outward.{Outward}
-use Rattle.shared_funnel.proofs.NextFunnels.{earlier, toward_below}
-use Rattle.shared_funnel.specs.Entered.{IsFromStart, IsFunnelTo, toward}
-use Rattle.shared_funnel.specs.Listed.{Listed}
+use Rattle.path_tree.proofs.NextFunnels.{earlier, toward_below}
+use Rattle.path_tree.specs.Entered.{IsFromStart, IsFunnelTo, toward}
+use Rattle.path_tree.specs.Listed.{Listed}
 use Rattle.path_tree.specs.Grown.{NamedTree}
 use Rattle.path_tree.specs.Growing.{AreThirdPlaces, IsGrownOver, IsThirdFrom, KeepsFunnelTo}
 

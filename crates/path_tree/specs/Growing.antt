@@ -7,8 +7,8 @@ use Rattle.meshes.specs.declared.tri.Tri.{Tri}
 use Rattle.tri_mesh.specs.Outward.{at_place}
 use Rattle.tri_mesh.specs.declared.outward.Outward.{Outward}
 use Rattle.funnels.specs.Funnel.{IsReachedFrom}
-use Rattle.shared_funnel.specs.Entered.{IsFromStart, IsFunnelTo, third_of}
-use Rattle.shared_funnel.specs.Listed.{Listed, listed_points}
+use Rattle.path_tree.specs.Entered.{IsFromStart, IsFunnelTo, third_of}
+use Rattle.path_tree.specs.Listed.{Listed, listed_points}
 use Rattle.path_tree.specs.Grown.{IsFromNamed, NamedTree, before_at, funnel_at}
 use Rattle.path_tree.specs.declared.growth.Growth.{Growth}
 

@@ -10,7 +10,7 @@ use Rattle.meshes.specs.declared.tri.Tri.{Tri}
 use Rattle.exact_plane.specs.Spot.{point_named}
 use Rattle.exact_plane.specs.declared.turns.Spot.{Spot}
 use Rattle.exact_plane.specs.declared.turns.Spot.TheVariants.{Corner, Goal, Start}
-use Rattle.shared_funnel.specs.Listed.{IsTriangleBeyond, IsFunnelAt, Listed}
+use Rattle.path_tree.specs.Listed.{IsTriangleBeyond, IsFunnelAt, Listed}
 
 -- a name for each vertex, or none, and a funnel for each triangle, or none
 pub record NamedTree : Type 0 where

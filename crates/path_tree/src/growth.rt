@@ -5,13 +5,15 @@ ghost use Rattle.meshes.specs.Side.{tri_at};
 ghost use Rattle.meshes.specs.declared.tri.Tri.{Tri};
 ghost use Rattle.exact_plane.specs.Spot.{IsNamed, point_named};
 ghost use Rattle.shared_seq.specs.Digits.{binary_digits};
-ghost use Rattle.shared_funnel.specs.Entered.{IsFromStart, IsFunnelTo};
+ghost use Rattle.path_tree.specs.Entered.{IsFromStart, IsFunnelTo};
 ghost use Rattle.path_tree.specs.Grown.{IsFromNamed};
 ghost use Rattle.path_tree.specs.Growing.{CanGoOn, HasGrown};
 
+use crate::door::door_of;
+use crate::funnel::Funnel;
+use crate::name::spot;
 use crate::onward::{funnel_from, place_of_third};
 use exact_plane::{Memory, Spot, Steps, Turns};
-use shared_funnel::{Funnel, door_of, spot};
 use std::alloc::Global;
 use std::sync::ledger::Ledger;
 use tri_mesh::{Mesh, Outward};

@@ -1,10 +1,11 @@
 ghost use Rattle.std.specs.Prelude.{◌+◌, ◌*◌, ◌<◌, ◌≤◌, IfOk, length};
 ghost use Rattle.shared_seq.specs.Digits.{binary_digits};
-ghost use Rattle.shared_funnel.specs.Entered.{IsFromStart, IsFunnelTo, toward};
+ghost use Rattle.path_tree.specs.Entered.{IsFromStart, IsFunnelTo, toward};
 ghost use Rattle.path_tree.specs.Growing.{IsThirdFrom};
 
+use crate::door::door_of;
+use crate::funnel::Funnel;
 use exact_plane::{Memory, Spot, Steps, Turns};
-use shared_funnel::{Funnel, door_of};
 use std::alloc::Global;
 use std::sync::ledger::Ledger;
 use tri_mesh::{Mesh, Outward};
@@ -23,7 +24,7 @@ pub(crate) fn place_of_third<T: Turns, L: Ledger>(
     requires within { p < length order.now }
     requires funnel { IsFunnelTo (T.corners board.now) (T.start board.now) mesh.now order.now p funnel.now }
     ensures reached { IsThirdFrom (T.corners board.now) (T.start board.now) mesh.now order.now p funnel.now result }
-    ensures steps { let b = binary_digits (length (T.corners board.now)) in steps.new ≤ steps.old + b * (7 * b + 3) }
+    ensures steps { let b = binary_digits (length (T.corners board.now)) in steps.new ≤ steps.old + b * (4 * b + 3) }
 {
     let third = door_of(mesh, order[p]).third;
     funnel.place(board, mesh.count() + 2, Spot::Corner(third), steps)

@@ -12,16 +12,14 @@ ghost use Rattle.exact_plane.specs.declared.turns.Spot.TheVariants.{Goal};
 ghost use Rattle.exact_plane.specs.Names.{AppendsNames, named_points};
 ghost use Rattle.path_tree.specs.Grown.{IsEntered, IsFromNamed, IsGrownFrom, IsKept, Names, funnel_at, kept_point};
 
+use crate::funnel::Funnel;
 use crate::growth::{Growth, straight};
+use crate::name::spot;
 use exact_plane::{Memory, Spot, Steps, Turns};
-use shared_funnel::{Funnel, spot};
 use std::alloc::Global;
 use std::marker::Model;
 use std::sync::ledger::Ledger;
 use tri_mesh::Mesh;
-
-// The nodes of so many funnels are still in the cache when the last of these is dropped.
-const NEAR: usize = 128;
 
 /// The paths from a start to every vertex of a polygon: what is before each vertex on its path, and the funnel at the side over
 /// which each triangle but the home is entered.
@@ -133,17 +131,6 @@ impl PathTree {
         turn_round(out, given);
     }
 
-    /// Drops the tree, as going out of scope does. Nodes that are given back are joined while they are near.
-    pub fn give_back(self, alloc: Global) {
-        let PathTree { funnels, .. } = self;
-        for (k, funnel) in funnels.into_iter().enumerate() {
-            drop(funnel);
-            if k % NEAR == 0 {
-                join_freed(alloc);
-            }
-        }
-    }
-
     // What is before a corner; none before the start.
     fn before(&self, at: Spot) -> Option<Spot>
         requires kept { IsKept self.now at }
@@ -155,12 +142,6 @@ impl PathTree {
             _ => None,
         }
     }
-}
-
-// Asks for a block of 2,048 bytes and gives it back. Small blocks that were given back are kept apart by the C library, and joined when it
-// is asked for a greater one; later they would have left the cache.
-fn join_freed(alloc: Global) {
-    let _: Result<Vec<u64>, _> = Vec::with_capacity(alloc, 256);
 }
 
 // The point from which a goal in triangle `tri` is reached over the side by which the triangle is entered: by the funnel there.

@@ -1,6 +1,4 @@
 // Lists that share their nodes: each call makes a new list and leaves its arguments as they were.
-ghost use Rattle.std.specs.Prelude.{◌<◌, length};
-
 use crate::reading::row_of;
 use exact_plane::Steps;
 use shared_seq::SharedSeq;
@@ -19,10 +17,6 @@ split_front 2 0 | 1 2 3 + 4 5 | 1 2
 split_rest 2 0 | 1 2 3 + 4 5 | 3 4 5
 take_then 2 9 | 1 2 3 + 4 5 | 1 2 9
 then_skip 2 9 | 1 2 3 + 4 5 | 9 3 4 5
-take_then 16 9 | 1 2 3 4 5 6 7 8 9 10 11 12 13 14 15 16 17 | 1 2 3 4 5 6 7 8 9 10 11 12 13 14 15 16 9
-then_skip 0 9 | 1 2 3 4 5 6 7 8 9 10 11 12 13 14 15 16 17 | 9 1 2 3 4 5 6 7 8 9 10 11 12 13 14 15 16 17
-pair 1 0 | 1 2 3 + 4 5 | 1 2
-pair 3 0 | 1 2 3 + 4 5 | 3 4
 single 0 7 | 1 2 3 | 7
 push_front 0 0 | 1 2 3 | 0 1 2 3
 insert_at 1 9 | 1 2 3 | 1 9 2 3
@@ -141,7 +135,6 @@ fn made_by<L: Ledger>(
         }
         "take_then" => list.take_then(alloc, at, value, steps).ok(),
         "then_skip" => list.then_skip(alloc, at, value, steps).ok(),
-        "pair" if at > 0 => pair_of(alloc, list, at, steps),
         "single" => SharedSeq::single(alloc, value, steps).ok(),
         "push_front" => list.push_front(alloc, value, steps).ok(),
         "insert_at" => list.insert_at(alloc, at, value, steps).ok(),
@@ -150,20 +143,6 @@ fn made_by<L: Ledger>(
         "search" => searched(alloc, list, value, steps),
         _ => None,
     }
-}
-
-// The values before a place and at it.
-fn pair_of<L: Ledger>(
-    alloc: Global,
-    list: &SharedSeq,
-    at: usize,
-    steps: &mut Steps<L>,
-) -> Option<SharedSeq>
-    requires { (0 < at) × (at < length list.now) }
-{
-    let (first, second) = list.pair(at, steps);
-    let one = SharedSeq::single(alloc, first, steps).ok()?;
-    one.push_back(alloc, second, steps).ok()
 }
 
 // How many values of a list that rises are below this one, and its last value.

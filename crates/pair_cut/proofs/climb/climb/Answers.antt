@@ -5,7 +5,7 @@ use Rattle.pair_cut.proofs.climb.climb.Goals as goal
 
 pub loop-at-init : goal.loop-at-init
 loop-at-init g c = λ points count climb.
-    up_begins (g.T.Turns.corners c.args.board.now) c.args.before.now c.args.end c.args.apex points count climb
+    up_begins (g.T.Turns.corners c.args.board.now) c.args.before.now c.args.ascent.end c.args.ascent.apex points count climb
     (vertex (g.T.Turns.corners c.args.board.now) c.args.third) c.args.side c.args.steps.now
 
 pub bounds-before-at : goal.bounds-before-at

@@ -8,7 +8,7 @@ use Rattle.pair_cut.specs.Climbs.{IsClimb}
 abbrev pub invariant-loop-at : goal.invariant-loop-at
 invariant-loop-at g l =
     let corners = g.T.Turns.corners l.board in
-    (points : ℕ → Point) (count : ℕ) → IsClimb corners l.before l.end l.apex points count
+    (points : ℕ → Point) (count : ℕ) → IsClimb corners l.before l.ascent.end l.ascent.apex points count
     → IsUp corners points count (vertex corners l.third) l.side l.fn.steps l.at l.steps
 
 abbrev pub decreases-loop-at : goal.decreases-loop-at

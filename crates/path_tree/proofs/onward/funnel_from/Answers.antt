@@ -1,8 +1,8 @@
 use Rattle.std.proofs.Common.{arith}
 use Rattle.std.proofs.lemmas.Result.{IfOk-weaker}
 use Rattle.meshes.proofs.Sides.{two_fewer}
-use Rattle.shared_funnel.proofs.NextFunnels.{toward_below, apex_in, few_digits, few_points, funnel_on_left, funnel_on_right}
-use Rattle.shared_funnel.specs.Entered.{toward}
+use Rattle.path_tree.proofs.NextFunnels.{toward_below, apex_in, few_digits, few_points, funnel_on_left, funnel_on_right}
+use Rattle.path_tree.specs.Entered.{toward}
 use Rattle.path_tree.proofs.onward.funnel_from.Goals as goal
 
 pub door_of-requires-clause-in_list : goal.door_of-requires-clause-in_list

@@ -4,8 +4,8 @@ use Rattle.rings.proofs.Vertices.{vertex_in_range}
 use Rattle.rings.specs.Ring.{origin, vertex}
 use Rattle.meshes.proofs.Sides.{two_fewer}
 use Rattle.funnels.specs.Funnel.{IsReachedFrom}
-use Rattle.shared_funnel.proofs.NextFunnels.{third_below, apex_in, few_digits}
-use Rattle.shared_funnel.specs.Listed.{AreNumbers, listed_points}
+use Rattle.path_tree.proofs.NextFunnels.{third_below, apex_in, few_digits}
+use Rattle.path_tree.specs.Listed.{AreNumbers, listed_points}
 use Rattle.path_tree.proofs.TreeSteps.{search_steps}
 use Rattle.path_tree.proofs.onward.place_of_third.Goals as goal
 

@@ -1,6 +1,6 @@
 use Rattle.std.proofs.Common.{subst, length, arith}
 use Rattle.meshes.proofs.Sides.{two_fewer}
-use Rattle.shared_funnel.specs.Listed.{AreNumbers}
+use Rattle.path_tree.specs.Listed.{AreNumbers}
 use Rattle.path_tree.proofs.GrownOver.{entered_few, entered_some, near_is}
 use Rattle.path_tree.proofs.TreeSteps.{reach_paid}
 use Rattle.path_tree.proofs.tree.near_goal.Goals as goal

@@ -1,7 +1,7 @@
 use Rattle.std.proofs.Common.{sym, subst, ◌<◌, length, arith}
 use Rattle.rings.specs.Ring.{vertex}
-use Rattle.shared_funnel.proofs.NextFunnels.{third_below}
-use Rattle.shared_funnel.specs.Listed.{listed_points}
+use Rattle.path_tree.proofs.NextFunnels.{third_below}
+use Rattle.path_tree.specs.Listed.{listed_points}
 use Rattle.pair_cut.proofs.DoorFunnels.{climbs}
 use Rattle.pair_cut.proofs.TableRows.{grown_more}
 use Rattle.pair_cut.proofs.rows.Row.go_on.Goals as goal

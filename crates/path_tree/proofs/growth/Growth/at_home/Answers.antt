@@ -3,7 +3,7 @@ use Rattle.std.proofs.lemmas.List.{get_or-replicate, length-replicate, length-se
 use Rattle.meshes.proofs.Sides.{two_fewer}
 use Rattle.meshes.specs.Side.{HasCorner}
 use Rattle.tri_mesh.specs.Outward.{outward_at}
-use Rattle.shared_funnel.proofs.Doors.{corner_place, corner_read, corners_of, read_below}
+use Rattle.path_tree.proofs.Doors.{corner_place, corner_read, corners_of, read_below}
 use Rattle.path_tree.proofs.GrownOver.{HasParent, grown_at_home, home_parent, parents_more, thirds_at_home}
 use Rattle.path_tree.proofs.growth.Growth.at_home.Goals as goal
 use Rattle.path_tree.specs.Grown.{NamedTree, funnel_at}

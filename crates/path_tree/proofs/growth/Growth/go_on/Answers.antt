@@ -2,8 +2,8 @@ use Rattle.std.proofs.Common.{◌≡◌, sym, ap, subst, ◌∙◌, ◌+◌, Som
 use Rattle.std.proofs.lemmas.List.{length-map}
 use Rattle.rings.specs.Ring.{vertex}
 use Rattle.meshes.proofs.Sides.{two_fewer}
-use Rattle.shared_funnel.proofs.NextFunnels.{beyond_at, third_below, few_digits, later_digits}
-use Rattle.shared_funnel.specs.Listed.{point_of}
+use Rattle.path_tree.proofs.NextFunnels.{beyond_at, third_below, few_digits, later_digits}
+use Rattle.path_tree.specs.Listed.{point_of}
 use Rattle.path_tree.proofs.GrownOver.{grown_more, thirds_more, third_named}
 use Rattle.path_tree.proofs.TreeSteps.{triangle_steps}
 use Rattle.path_tree.proofs.growth.Growth.go_on.Goals as goal

@@ -1,7 +1,7 @@
 use Rattle.std.proofs.Common.{arith}
 use Rattle.std.proofs.lemmas.Result.{IfOk-weaker}
 use Rattle.meshes.proofs.Sides.{two_fewer}
-use Rattle.shared_funnel.proofs.NextFunnels.{ends_at, funnel_from_home, later_digits}
+use Rattle.path_tree.proofs.NextFunnels.{ends_at, funnel_from_home, later_digits}
 use Rattle.path_tree.proofs.TreeFunnels.{none_at_home, some_later, third_place}
 use Rattle.path_tree.proofs.growth.Growth.next_funnel.Goals as goal
 use Rattle.path_tree.specs.Growing.{tree_so_far}

@@ -1,7 +1,7 @@
 use Rattle.std.proofs.Common.{subst, ◌+◌, ◌≤◌, length, arith}
 use Rattle.meshes.proofs.Sides.{two_fewer}
 use Rattle.shared_seq.specs.Digits.{binary_digits}
-use Rattle.shared_funnel.proofs.StepCounts.{home_steps}
+use Rattle.path_tree.proofs.StepCounts.{home_steps}
 use Rattle.path_tree.proofs.GrownOver.{grown_at_end, no_funnel_at_home}
 use Rattle.path_tree.proofs.TreeSteps.{tree_steps}
 use Rattle.path_tree.proofs.tree.PathTree.build.Goals as goal

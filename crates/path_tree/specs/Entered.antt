@@ -7,8 +7,8 @@ use Rattle.meshes.specs.Side.{tri_at}
 use Rattle.meshes.specs.declared.tri.Tri.{Tri}
 use Rattle.tri_mesh.specs.Outward.{IsOutward, at_place, outward_at}
 use Rattle.tri_mesh.specs.declared.outward.Outward.{Outward}
-use Rattle.shared_funnel.specs.Listed.{IsFunnelAt, Listed}
-use Rattle.shared_funnel.specs.Third.{side_third}
+use Rattle.path_tree.specs.Listed.{IsFunnelAt, Listed}
+use Rattle.path_tree.specs.Third.{side_third}
 
 -- the place of the triangle from which the one at a place is reached
 abbrev pub toward : List Outward → ℕ → ℕ

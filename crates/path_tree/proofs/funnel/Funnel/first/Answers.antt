@@ -2,9 +2,9 @@ use Rattle.std.proofs.Common.{sym, ap, subst, ◌∙◌, [], ◌∷◌, ◌++◌
 use Rattle.std.proofs.lemmas.Bool.{false≢true}
 use Rattle.rings.proofs.Vertices.{vertex_in_range}
 use Rattle.rings.specs.Ring.{origin}
-use Rattle.shared_funnel.proofs.FunnelNumbers.{first_at_left, first_at_right, first_between}
-use Rattle.shared_funnel.proofs.funnel.Funnel.first.Goals as goal
-use Rattle.shared_funnel.specs.Listed.{IsFunnelAt}
+use Rattle.path_tree.proofs.FunnelNumbers.{first_at_left, first_at_right, first_between}
+use Rattle.path_tree.proofs.funnel.Funnel.first.Goals as goal
+use Rattle.path_tree.specs.Listed.{IsFunnelAt}
 
 pub returns-then-same-clause-funnel : goal.returns-then-same-clause-funnel
 returns-then-same-clause-funnel g c tris home next fits in_start shared =

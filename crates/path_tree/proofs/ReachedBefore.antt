@@ -15,8 +15,8 @@ use Rattle.funnels.proofs.Trees.{before_corner, before_reached, length_leftward,
 use Rattle.funnels.proofs.Vertices.{fitted_long, fitted_simple}
 use Rattle.funnels.specs.Funnel.{IsReachedFrom}
 use Rattle.funnels.specs.OpenFunnel.{left_behind, right_behind}
-use Rattle.shared_funnel.proofs.FunnelNumbers.{place_within, point_there}
-use Rattle.shared_funnel.specs.Listed.{IsTriangleBeyond, IsFunnelAt, Listed, point_of, listed_points}
+use Rattle.path_tree.proofs.FunnelNumbers.{place_within, point_there}
+use Rattle.path_tree.specs.Listed.{IsTriangleBeyond, IsFunnelAt, Listed, point_of, listed_points}
 
 module _ (corners : List Point) (start : Point) (tris : List Tri) (k i j m d : ℕ) (fits : Fits corners tris)
     (beyond : IsTriangleBeyond tris k i j m) (f : Listed) (w : IsFunnelAt corners start i j d f) (h : ℕ) where

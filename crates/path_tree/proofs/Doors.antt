@@ -8,8 +8,8 @@ use Rattle.meshes.specs.Fits.{Fits, IsSideOfTwo}
 use Rattle.meshes.specs.Mesh.{side_begin, side_end}
 use Rattle.meshes.specs.Side.{HasSide, tri_at, HasCorner}
 use Rattle.meshes.specs.declared.tri.Tri.{Tri}
-use Rattle.shared_funnel.specs.Listed.{IsTriangleBeyond, IsFunnelAt, Listed}
-use Rattle.shared_funnel.specs.Third.{IsThird, side_third}
+use Rattle.path_tree.specs.Listed.{IsTriangleBeyond, IsFunnelAt, Listed}
+use Rattle.path_tree.specs.Third.{IsThird, side_third}
 
 -- and that corner is the third
 pub third_numbered : (t : Tri) (side : ℕ) → side < 3 → IsThird t (side_begin t side) (side_end t side) (side_third t side)

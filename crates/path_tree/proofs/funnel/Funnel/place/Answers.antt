@@ -6,10 +6,10 @@ use Rattle.plane.specs.Point.{whole}
 use Rattle.exact_plane.specs.Spot.{point_named}
 use Rattle.shared_seq.proofs.Searches.{after_is_part, before_is_part, whole_is_part}
 use Rattle.shared_seq.specs.Digits.{binary_digits}
-use Rattle.shared_funnel.proofs.Halving.{IsHalved, halving_starts, is_in_after, is_in_before, left_is, next_is, round_paid}
-use Rattle.shared_funnel.proofs.funnel.Funnel.place_by_halves.Goals as goal
-use Rattle.shared_funnel.specs.Listed.{point_of, listed_points}
-use Rattle.shared_funnel.specs.Preceding.{IsPrecededBy}
+use Rattle.path_tree.proofs.Halving.{IsHalved, halving_starts, is_in_after, is_in_before, left_is, next_is, round_paid}
+use Rattle.path_tree.proofs.funnel.Funnel.place.Goals as goal
+use Rattle.path_tree.specs.Listed.{point_of, listed_points}
+use Rattle.path_tree.specs.Preceding.{IsPrecededBy}
 
 pub loop-halves-init : goal.loop-halves-init
 loop-halves-init g c =

@@ -1,4 +1,4 @@
--- How many steps it takes to make a funnel: pushes on a list of one or two numbers. Digits of few corners. What four edges of a long list take.
+-- How many steps it takes to make a funnel: pushes on a list of one or two numbers. Digits of few corners.
 use Rattle.std.proofs.Common.{◌≡◌, refl, List, length, ℕ, ◌+◌, ◌*◌, ◌≤◌, arith}
 use Rattle.std.proofs.lemmas.Nat.{mul-le}
 use Rattle.shared_seq.proofs.Digits.{binary_digits-le, binary_digits_mono}
@@ -22,17 +22,6 @@ some_digits n some = omega (arith, one_has, binary_digits_mono 1 n some)
 
 pub three_digits : (n : ℕ) → 4 ≤ n → 3 ≤ binary_digits n
 three_digits n more = omega (arith, four_has, binary_digits_mono 4 n more)
-
--- and 32 or more have six, so that four edges, for each two numbers and a turn, are paid
-six_have : binary_digits 32 ≡ 6
-unfolding binary_digits
-six_have = refl
-
-pub edges_paid : (n : ℕ) → 32 ≤ n → 4 * (4 * binary_digits n + 3) ≤ 3 * (binary_digits n * binary_digits n)
-edges_paid n more =
-    let b = binary_digits n in
-    let six : 6 ≤ b = omega (arith, six_have, binary_digits_mono 32 n more) in
-    omega (arith, six, mul-le 6 b b b six (omega arith))
 
 -- The home of a tree, or of a row of a table, takes three
 pub home_steps : (n : ℕ) → 1 ≤ n → 3 ≤ 200 * (binary_digits n * binary_digits n)

@@ -4,7 +4,7 @@ use Rattle.funnels.proofs.Funnels.{passed_left, passed_right}
 use Rattle.exact_plane.proofs.Directions.{not_left_iff, right_iff_negative}
 use Rattle.exact_plane.specs.declared.direction.Direction.TheVariants.{Right}
 use Rattle.exact_plane.specs.Spot.{point_named}
-use Rattle.shared_funnel.proofs.funnel.Funnel.is_passed.Goals as goal
+use Rattle.path_tree.proofs.funnel.Funnel.is_passed.Goals as goal
 
 pub returns-then-edge-self-clause-passed : goal.returns-then-edge-self-clause-passed
 returns-then-edge-self-clause-passed g c some =

@@ -21,8 +21,8 @@ use Rattle.funnels.proofs.Funnels.{next_left_old, next_right_old}
 use Rattle.funnels.proofs.Trees.{first_right, length_rightward, first_left, length_leftward}
 use Rattle.funnels.specs.Funnel.{IsReachedFrom}
 use Rattle.funnels.specs.OpenFunnel.{IsOpenFunnel, right_behind, left_behind}
-use Rattle.shared_funnel.proofs.Lists.{more_numbers, none_of_both, one_number}
-use Rattle.shared_funnel.specs.Listed.{AreNumbers, IsFunnelAt, Listed, point_of, listed_points, IsTriangleBeyond}
+use Rattle.path_tree.proofs.Lists.{more_numbers, none_of_both, one_number}
+use Rattle.path_tree.specs.Listed.{AreNumbers, IsFunnelAt, Listed, point_of, listed_points, IsTriangleBeyond}
 
 module _ (corners : List Point) (start : Point) where
   -- a corner's number stands for the vertex,

@@ -18,10 +18,10 @@ use Rattle.tri_mesh.specs.Outward.{IsOutward, outward_at, at_place}
 use Rattle.tri_mesh.specs.declared.outward.Outward.{Outward}
 use Rattle.shared_seq.proofs.Digits.{binary_digits_mono}
 use Rattle.shared_seq.specs.Digits.{binary_digits}
-use Rattle.shared_funnel.proofs.Doors.{beyond_of, corner_cases, side_of_both, third_numbered, funnel_later, goes_on}
-use Rattle.shared_funnel.proofs.StepCounts.{three_digits}
-use Rattle.shared_funnel.specs.Entered.{IsFromStart, left_of, right_of, third_of, toward, IsFunnelTo}
-use Rattle.shared_funnel.specs.Listed.{IsTriangleBeyond, IsFunnelAt, Listed, point_of, listed_points}
+use Rattle.path_tree.proofs.Doors.{beyond_of, corner_cases, side_of_both, third_numbered, funnel_later, goes_on}
+use Rattle.path_tree.proofs.StepCounts.{three_digits}
+use Rattle.path_tree.specs.Entered.{IsFromStart, left_of, right_of, third_of, toward, IsFunnelTo}
+use Rattle.path_tree.specs.Listed.{IsTriangleBeyond, IsFunnelAt, Listed, point_of, listed_points}
 
 -- an order outward from a triangle with the start in it
 pub from_start : (corners : List Point) (start : Point) (tris : List Tri) (home : ℕ) (order : List Outward) → Fits corners tris

@@ -3,10 +3,10 @@ use Rattle.plane.specs.Point.{whole}
 use Rattle.exact_plane.specs.Spot.{point_named}
 use Rattle.shared_seq.proofs.Searches.{IsPartOf}
 use Rattle.shared_seq.specs.Digits.{binary_digits}
-use Rattle.shared_funnel.proofs.Halving.{IsHalved}
-use Rattle.shared_funnel.proofs.funnel.Funnel.place_by_halves.Given as goal
-use Rattle.shared_funnel.specs.Listed.{listed_points}
-use Rattle.shared_funnel.specs.Preceding.{IsPrecededBy}
+use Rattle.path_tree.proofs.Halving.{IsHalved}
+use Rattle.path_tree.proofs.funnel.Funnel.place.Given as goal
+use Rattle.path_tree.specs.Listed.{listed_points}
+use Rattle.path_tree.specs.Preceding.{IsPrecededBy}
 
 abbrev pub invariant-loop-halves : goal.invariant-loop-halves
 invariant-loop-halves g l =

@@ -1,7 +1,7 @@
 ghost use Rattle.std.specs.Prelude.{◌≡◌, ◌<◌, length};
 ghost use Rattle.meshes.specs.Mesh.{side_begin, side_end};
 ghost use Rattle.meshes.specs.Side.{tri_at};
-ghost use Rattle.shared_funnel.specs.Third.{side_third};
+ghost use Rattle.path_tree.specs.Third.{side_third};
 
 use tri_mesh::{Mesh, Outward};
 

@@ -7,7 +7,7 @@ use Rattle.std.specs.Option.{option_or}
 use Rattle.std.specs.Prelude.{IfSome, IsNone, None, Option, Some}
 use Rattle.plane.specs.Point.{Point, Triple}
 use Rattle.funnels.specs.Funnel.{IsPassed}
-use Rattle.shared_funnel.specs.Preceding.{IsPrecededBy}
+use Rattle.path_tree.specs.Preceding.{IsPrecededBy}
 use Rattle.shared_seq.proofs.Searches.{IsPartOf, after_end, before_is_part, halves_length, middle_is, part_at}
 use Rattle.shared_seq.specs.Search.{AreHalves, ListPart}
 

@@ -3,7 +3,7 @@ use Rattle.std.proofs.Common.{◌≡◌, refl, ap, List, [], ◌∷◌, ◌++◌
 use Rattle.std.proofs.lemmas.List.{length-append}
 use Rattle.std.proofs.lemmas.List.Elements.{All-append}
 use Rattle.plane.specs.Point.{Point}
-use Rattle.shared_funnel.specs.Listed.{AreNumbers}
+use Rattle.path_tree.specs.Listed.{AreNumbers}
 
 -- where two lists make the empty one, both are
 pub none_of_both : (xs ys : List Point) → xs ++ ys ≡ [] → (xs ≡ []) × (length ys ≡ 0)

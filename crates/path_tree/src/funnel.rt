@@ -1,4 +1,4 @@
-ghost use Rattle.std.specs.Prelude.{◌≡◌, ◌≢◌, ◌+◌, ◌*◌, ◌^◌, ◌<◌, ◌≤◌, ◌↔◌, ℕ, List, IfOk, IfSome, IsTrue, length, slice_index};
+ghost use Rattle.std.specs.Prelude.{◌≡◌, ◌≢◌, ◌+◌, ◌*◌, ◌^◌, ◌<◌, ◌≤◌, ◌↔◌, ℕ, List, IfOk, IsTrue, length, slice_index};
 ghost use Rattle.plane.specs.Point.{Point, whole};
 ghost use Rattle.rings.specs.Chain.{point_at};
 ghost use Rattle.meshes.specs.Fits.{Fits, IsInTri, IsSideOfTwo};
@@ -7,8 +7,8 @@ ghost use Rattle.meshes.specs.declared.tri.Tri.{Tri};
 ghost use Rattle.funnels.specs.Funnel.{IsPassed, IsReachedFrom};
 ghost use Rattle.exact_plane.specs.Spot.{IsNamed, point_named};
 ghost use Rattle.shared_seq.specs.Digits.{binary_digits};
-ghost use Rattle.shared_funnel.specs.Listed.{AreNumbers, IsNextFunnel, IsFunnelAt, listed_points};
-ghost use Rattle.shared_funnel.specs.Preceding.{IsPrecededBy};
+ghost use Rattle.path_tree.specs.Listed.{AreNumbers, IsNextFunnel, IsFunnelAt, listed_points};
+ghost use Rattle.path_tree.specs.Preceding.{IsPrecededBy};
 
 use crate::name::spot;
 use exact_plane::{Direction, Memory, Spot, Steps, Turns};
@@ -33,12 +33,8 @@ struct Edge {
     place: usize,
 }
 
-// From so many numbers on the edges near both ends are asked first: a corner beyond a diagonal is mostly reached from there. A
-// shorter list is halved about as fast, and below 32 numbers the edges would not be paid.
-const LONG: usize = 48;
-
 impl Model for Funnel {
-    ghost use Rattle.shared_funnel.specs.Listed.{Listed};
+    ghost use Rattle.path_tree.specs.Listed.{Listed};
 
     ghost Value = { Listed };
 
@@ -89,62 +85,9 @@ impl Funnel {
         self.list.get(place, steps)
     }
 
-    /// The place of the point from which `y` is reached. It takes at most b (7 b + 3) steps, b the number of binary digits of
+    /// The place of the point from which `y` is reached. It takes at most b (4 b + 3) steps, b the number of binary digits of
     /// the count of the points.
-    #[tactic(auto, using(crate::proofs::StepCounts::edges_paid))]
     pub fn place<T: Turns, L: Ledger>(
-        &self,
-        board: &T,
-        n: u32,
-        y: Spot,
-        steps: &mut Steps<L>,
-    ) -> usize
-        requires count { n ≡ length (T.corners board.now) }
-        requires some { 0 < length self.now.list }
-        requires numbers { AreNumbers n self.now.list }
-        requires y_named { IsNamed (T.corners board.now) y }
-        ensures reached { let at = point_named (T.corners board.now) (T.start board.now) (T.goal board.now) in
-            IsReachedFrom (listed_points (T.corners board.now) (T.start board.now) self.now.list) self.now.apex result (whole (at y)) }
-        ensures steps { let b = binary_digits (length self.now.list) in steps.new ≤ steps.old + b * (7 * b + 3) }
-    {
-        if self.list.len() >= LONG {
-            if let Some(place) = self.place_near_end(board, n, y, steps) {
-                return place;
-            }
-        }
-        self.place_by_halves(board, n, y, steps)
-    }
-
-    // The place, where it is one of the first two or the last two. It takes at most 16 b + 12 steps.
-    fn place_near_end<T: Turns, L: Ledger>(
-        &self,
-        board: &T,
-        n: u32,
-        y: Spot,
-        steps: &mut Steps<L>,
-    ) -> Option<usize>
-        requires count { n ≡ length (T.corners board.now) }
-        requires long { 4 < length self.now.list }
-        requires numbers { AreNumbers n self.now.list }
-        requires y_named { IsNamed (T.corners board.now) y }
-        ensures reached { let at = point_named (T.corners board.now) (T.start board.now) (T.goal board.now) in
-            IfSome result (λ place. IsReachedFrom (listed_points (T.corners board.now) (T.start board.now) self.now.list) self.now.apex place (whole (at y))) }
-        ensures steps { let b = binary_digits (length self.now.list) in steps.new ≤ steps.old + 4 * (4 * b + 3) }
-    {
-        let len = self.list.len();
-        for near in 1..3 {
-            if !self.passes(board, n, near, y, steps) {
-                return Some(near - 1);
-            }
-            if self.passes(board, n, len - near, y, steps) {
-                return Some(len - near);
-            }
-        }
-        None
-    }
-
-    // The place, by halves of the whole list. It takes at most b (4 b + 3) steps.
-    fn place_by_halves<T: Turns, L: Ledger>(
         &self,
         board: &T,
         n: u32,
@@ -173,33 +116,6 @@ impl Funnel {
             }
         }
         search.low() - 1
-    }
-
-    // Whether the way to `y` passes the edge before a place, which is not the first one. It takes at most 4 b + 3 steps.
-    fn passes<T: Turns, L: Ledger>(
-        &self,
-        board: &T,
-        n: u32,
-        place: usize,
-        y: Spot,
-        steps: &mut Steps<L>,
-    ) -> bool
-        requires later { 0 < place }
-        requires within { place < length self.now.list }
-        requires count { n ≡ length (T.corners board.now) }
-        requires numbers { AreNumbers n self.now.list }
-        requires y_named { IsNamed (T.corners board.now) y }
-        ensures passed { let at = point_named (T.corners board.now) (T.start board.now) (T.goal board.now) in
-            IsTrue result ↔ IsPassed (listed_points (T.corners board.now) (T.start board.now) self.now.list) self.now.apex place (whole (at y)) }
-        ensures steps { let b = binary_digits (length self.now.list) in steps.new ≤ steps.old + 4 * b + 3 }
-    {
-        let (left, right) = self.list.pair(place, steps);
-        let edge = Edge {
-            left: Some(left),
-            right,
-            place,
-        };
-        self.is_passed(board, n, edge, y, steps)
     }
 
     // Whether the way to `y` passes an edge. The one before the first place counts as passed.

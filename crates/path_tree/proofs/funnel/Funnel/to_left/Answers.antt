@@ -1,7 +1,7 @@
 use Rattle.std.proofs.Common.{◌≡◌, sym, ap, subst, ◌∙◌, ◌+◌, ◌-◌, ◌∷◌, drop, arith}
-use Rattle.shared_funnel.proofs.FunnelNumbers.{funnel_to_left}
-use Rattle.shared_funnel.proofs.funnel.Funnel.to_left.Goals as goal
-use Rattle.shared_funnel.specs.Listed.{IsFunnelAt}
+use Rattle.path_tree.proofs.FunnelNumbers.{funnel_to_left}
+use Rattle.path_tree.proofs.funnel.Funnel.to_left.Goals as goal
+use Rattle.path_tree.specs.Listed.{IsFunnelAt}
 
 pub returns-clause-funnel : goal.returns-clause-funnel
 returns-clause-funnel g c corners start tris k i j next d fits beyond w reached shared =

@@ -1,7 +1,0 @@
-pub mod Doors
-pub mod NextFunnels
-pub mod FunnelNumbers
-pub mod Halving
-pub mod Lists
-pub mod ReachedBefore
-pub mod StepCounts

@@ -1,4 +1,0 @@
-pub mod Entered
-pub mod Listed
-pub mod Preceding
-pub mod Third
