@@ -13,10 +13,10 @@ ghost use Rattle.pair_cut.specs.declared.table.TheConstants.{MAX_PAIRED};
 
 use crate::climb::{Tangent, tangent_of};
 use exact_plane::{Memory, Steps, Turns};
-use path_tree::door_of;
+use path_tree::{Visit, door_of};
 use std::alloc::Global;
 use std::sync::ledger::Ledger;
-use tri_mesh::{Mesh, Outward, triangle_at};
+use tri_mesh::{Mesh, triangle_at};
 
 // The row of vertex `i`: outward from a triangle with that corner, the third corner of each is reached over its door.
 pub(crate) fn row_from<T: Turns, L: Ledger>(
@@ -36,7 +36,12 @@ pub(crate) fn row_from<T: Turns, L: Ledger>(
     let order = mesh.outward(alloc, home)?;
     let mut row = Row::at_home(alloc, mesh.count() as usize, i)?;
     for p in 1..order.len() {
-        row.go_on(board, mesh, &order, p, i, steps);
+        let visit = Visit {
+            mesh,
+            order: &order,
+            p,
+        };
+        row.go_on(board, visit, i, steps);
     }
     Ok(row.before)
 }
@@ -67,42 +72,36 @@ impl Row {
     }
 
     // Goes on to the triangle at place `p`: what comes before its third corner. It takes a step for each vertex at most.
-    fn go_on<T: Turns, L: Ledger>(
-        &mut self,
-        board: &T,
-        mesh: &Mesh,
-        order: &[Outward],
-        p: usize,
-        i: u32,
-        steps: &mut Steps<L>,
-    )
-        requires start { IsFromStart (T.corners board.now) (vertex (T.corners board.now) i) mesh.now order.now }
+    fn go_on<T: Turns, L: Ledger>(&mut self, board: &T, visit: Visit, i: u32, steps: &mut Steps<L>)
+        requires start { IsFromStart (T.corners board.now) (vertex (T.corners board.now) i) visit.mesh.now visit.order.now }
         requires vertex { i < length (T.corners board.now) }
-        requires home { HasCorner (tri_at mesh.now (at_place order.now 0)) i }
-        requires later { 0 < p }
-        requires within { p < length order.now }
-        requires grown { IsGrownTo (T.corners board.now) i mesh.now order.now p self.old.before.items self.old.tangents.items }
-        ensures grown { IsGrownTo (T.corners board.now) i mesh.now order.now (p + 1) self.new.before.items self.new.tangents.items }
+        requires home { HasCorner (tri_at visit.mesh.now (at_place visit.order.now 0)) i }
+        requires later { 0 < visit.p }
+        requires within { visit.p < length visit.order.now }
+        requires grown { IsGrownTo (T.corners board.now) i visit.mesh.now visit.order.now visit.p self.old.before.items self.old.tangents.items }
+        ensures grown { IsGrownTo (T.corners board.now) i visit.entry.mesh.now visit.entry.order.now (visit.entry.p + 1) self.new.before.items self.new.tangents.items }
         ensures steps { steps.new ≤ steps.old + length (T.corners board.now) }
     {
+        let Visit { mesh, order, p } = visit;
         let door = door_of(mesh, order[p]);
-        let apex = self.apex(mesh, order, p, i);
+        let apex = self.apex(visit, i);
         let tangent = tangent_of(board, &self.before, door, apex, steps);
         self.before[door.third as usize] = tangent.near;
         self.tangents[p] = tangent;
     }
 
     // The apex of the door of the triangle at place `p`.
-    fn apex(&self, mesh: &Mesh, order: &[Outward], p: usize, i: u32) -> u32
-        requires outward { IsOutward mesh.now (at_place order.now 0) order.now }
-        requires later { 0 < p }
-        requires within { p < length order.now }
-        requires places { length self.now.tangents.items ≡ length order.now }
-        ensures { (corners : List Point) → IsFromStart corners (vertex corners i) mesh.now order.now → i < length corners
-            → HasCorner (tri_at mesh.now (at_place order.now 0)) i
-            → IsGrownTo corners i mesh.now order.now p self.now.before.items self.now.tangents.items
-            → IsApex corners i mesh.now order.now p result }
+    fn apex(&self, visit: Visit, i: u32) -> u32
+        requires outward { IsOutward visit.mesh.now (at_place visit.order.now 0) visit.order.now }
+        requires later { 0 < visit.p }
+        requires within { visit.p < length visit.order.now }
+        requires places { length self.now.tangents.items ≡ length visit.order.now }
+        ensures { (corners : List Point) → IsFromStart corners (vertex corners i) visit.entry.mesh.now visit.entry.order.now → i < length corners
+            → HasCorner (tri_at visit.entry.mesh.now (at_place visit.entry.order.now 0)) i
+            → IsGrownTo corners i visit.entry.mesh.now visit.entry.order.now visit.entry.p self.now.before.items self.now.tangents.items
+            → IsApex corners i visit.entry.mesh.now visit.entry.order.now visit.entry.p result }
     {
+        let Visit { mesh, order, p } = visit;
         let toward = order[p].toward as usize;
         if toward == 0 {
             return i;

@@ -14,6 +14,14 @@ pub struct Door {
     pub third: u32,
 }
 
+/// The triangle at place `p` of an order outward over a mesh.
+#[derive(Clone, Copy)]
+pub struct Visit<'a> {
+    pub mesh: &'a Mesh,
+    pub order: &'a [Outward],
+    pub p: usize,
+}
+
 /// The door of a triangle in an order outward: the side that it shares with the one from which it is reached.
 pub fn door_of(mesh: &Mesh, at: Outward) -> Door
     requires in_list { at.tri < length mesh.now }

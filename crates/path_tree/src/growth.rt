@@ -9,7 +9,7 @@ ghost use Rattle.path_tree.specs.Entered.{IsFromStart, IsFunnelTo};
 ghost use Rattle.path_tree.specs.Grown.{IsFromNamed};
 ghost use Rattle.path_tree.specs.Growing.{CanGoOn, HasGrown};
 
-use crate::door::door_of;
+use crate::door::{Visit, door_of};
 use crate::funnel::Funnel;
 use crate::name::spot;
 use crate::onward::{funnel_from, place_of_third};
@@ -63,17 +63,16 @@ impl Growth {
         &mut self,
         alloc: Global,
         board: &T,
-        mesh: &Mesh,
-        order: &[Outward],
-        p: usize,
+        visit: Visit,
         steps: &mut Steps<L>,
     ) -> Result<(), Memory>
-        requires { CanGoOn (T.corners board.now) (T.start board.now) mesh.now order.now p self.old }
-        ensures grown { OnOk result (HasGrown (T.corners board.now) (T.start board.now) mesh.now order.now (p + 1) self.new) }
+        requires { CanGoOn (T.corners board.now) (T.start board.now) visit.mesh.now visit.order.now visit.p self.old }
+        ensures grown { OnOk result (HasGrown (T.corners board.now) (T.start board.now) visit.entry.mesh.now visit.entry.order.now (visit.entry.p + 1) self.new) }
         ensures steps { let b = binary_digits (length (T.corners board.now)) in steps.new ≤ steps.old + 200 * (b * b) }
     {
-        let funnel = self.next_funnel(alloc, board, mesh, order, p, steps)?;
-        let place = place_of_third(board, mesh, order, p, &funnel, steps);
+        let Visit { mesh, order, p } = visit;
+        let funnel = self.next_funnel(alloc, board, visit, steps)?;
+        let place = place_of_third(board, visit, &funnel, steps);
         let near = spot(funnel.number(place, steps), mesh.count() + 2);
         self.thirds.push_reserved(place);
         self.before[door_of(mesh, order[p]).third as usize] = Some(near);
@@ -86,20 +85,19 @@ impl Growth {
         &self,
         alloc: Global,
         board: &T,
-        mesh: &Mesh,
-        order: &[Outward],
-        p: usize,
+        visit: Visit,
         steps: &mut Steps<L>,
     ) -> Result<Funnel, Memory>
-        requires { CanGoOn (T.corners board.now) (T.start board.now) mesh.now order.now p self.now }
-        ensures funnel { IfOk result (IsFunnelTo (T.corners board.now) (T.start board.now) mesh.now order.now p) }
+        requires { CanGoOn (T.corners board.now) (T.start board.now) visit.mesh.now visit.order.now visit.p self.now }
+        ensures funnel { IfOk result (IsFunnelTo (T.corners board.now) (T.start board.now) visit.entry.mesh.now visit.entry.order.now visit.entry.p) }
         ensures steps { let b = binary_digits (length (T.corners board.now)) in steps.new ≤ steps.old + 160 * (b + 1) }
     {
+        let Visit { mesh, order, p } = visit;
         let toward = order[p].toward as usize;
         match &self.funnels[order[toward].tri as usize] {
             Some(funnel) => {
                 let place = self.thirds[toward];
-                funnel_from(alloc, board, mesh, order, p, funnel, place, steps)
+                funnel_from(alloc, board, visit, funnel, place, steps)
             }
             None => {
                 let door = door_of(mesh, order[p]);

@@ -8,5 +8,5 @@ mod name;
 mod onward;
 mod tree;
 
-pub use door::{Door, door_of};
+pub use door::{Door, Visit, door_of};
 pub use tree::PathTree;

@@ -12,6 +12,7 @@ ghost use Rattle.exact_plane.specs.declared.turns.Spot.TheVariants.{Goal};
 ghost use Rattle.exact_plane.specs.Names.{AppendsNames, named_points};
 ghost use Rattle.path_tree.specs.Grown.{IsEntered, IsFromNamed, IsGrownFrom, IsKept, Names, funnel_at, kept_point};
 
+use crate::door::Visit;
 use crate::funnel::Funnel;
 use crate::growth::{Growth, straight};
 use crate::name::spot;
@@ -60,7 +61,12 @@ impl PathTree {
         let order = mesh.outward(alloc, home)?;
         let mut growth = Growth::at_home(alloc, board, mesh, &order, steps)?;
         for p in 1..order.len() {
-            growth.go_on(alloc, board, mesh, &order, p, steps)?;
+            let visit = Visit {
+                mesh,
+                order: &order,
+                p,
+            };
+            growth.go_on(alloc, board, visit, steps)?;
         }
         Ok(PathTree {
             before: growth.before,

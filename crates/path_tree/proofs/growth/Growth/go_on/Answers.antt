@@ -12,19 +12,19 @@ use Rattle.path_tree.specs.Growing.{tree_so_far}
 
 pub returns-in_err-funnel-clause-steps : goal.returns-in_err-funnel-clause-steps
 returns-in_err-funnel-clause-steps g c =
-    let three = later_digits _ _ _ _ c.requires.from c.args.p c.requires.later c.requires.within in
+    let three = later_digits _ _ _ _ c.requires.from c.args.visit.p c.requires.later c.requires.within in
     omega (arith, c.next_funnel.ensures.steps, triangle_steps _ three)
 
 pub index_mut-requires : goal.index_mut-requires
 index_mut-requires g c =
-    let below = third_below _ _ _ _ c.requires.from c.args.p c.requires.later c.requires.within in
+    let below = third_below _ _ _ _ c.requires.from c.args.visit.p c.requires.later c.requires.within in
     omega (arith, below, c.door_of.ensures.third, c.requires.grown.over.vertices, c.args.self.now.before.ok.0)
 
 pub index_mut-requires-2 : goal.index_mut-requires-2
 index_mut-requires-2 g c =
     omega (
       arith,
-      c.requires.from.outward.in_list c.args.p c.requires.within,
+      c.requires.from.outward.in_list c.args.visit.p c.requires.within,
       c.requires.grown.over.triangles,
       c.args.self.now.funnels.ok.0,
     )
@@ -33,10 +33,10 @@ pub returns-clause-grown : goal.returns-clause-grown
 returns-clause-grown g c =
     let corners = g.T.Turns.corners c.args.board.now in
     let start = g.T.Turns.start c.args.board.now in
-    let tris = c.args.mesh.now in
-    let order = c.args.order.now in
+    let tris = c.args.visit.mesh.now in
+    let order = c.args.visit.order.now in
     let from = c.requires.from in
-    let p = c.args.p in
+    let p = c.args.visit.p in
     let f = c.in_ok-funnel.funnel in
     let w = c.in_ok-funnel.ensures.funnel in
     let reached = c.place_of_third-place.ensures.reached in
@@ -59,8 +59,8 @@ returns-clause-grown g c =
 
 pub returns-clause-steps : goal.returns-clause-steps
 returns-clause-steps g c =
-    let three = later_digits _ _ _ _ c.requires.from c.args.p c.requires.later c.requires.within in
-    let few = few_digits _ _ _ _ c.requires.from c.args.p _ c.requires.within c.in_ok-funnel.ensures.funnel in
+    let three = later_digits _ _ _ _ c.requires.from c.args.visit.p c.requires.later c.requires.within in
+    let few = few_digits _ _ _ _ c.requires.from c.args.visit.p _ c.requires.within c.in_ok-funnel.ensures.funnel in
     omega (
       arith,
       c.next_funnel.ensures.steps,
