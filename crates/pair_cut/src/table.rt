@@ -1,3 +1,4 @@
+// The table of the predecessors on the paths between all pairs of vertices.
 ghost use Rattle.std.specs.Prelude.{◌≤◌, ◌<◌, ◌+◌, ◌*◌, List, IfOk, OnOk, length, reverse};
 ghost use Rattle.plane.specs.Point.{Point};
 ghost use Rattle.meshes.specs.Fits.{Fits};

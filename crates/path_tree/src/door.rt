@@ -1,3 +1,4 @@
+// A triangle in an outward order, and the side over which it is entered.
 ghost use Rattle.std.specs.Prelude.{◌≡◌, ◌<◌, length};
 ghost use Rattle.meshes.specs.Mesh.{side_begin, side_end};
 ghost use Rattle.meshes.specs.Side.{tri_at};

@@ -1,3 +1,4 @@
+// A tree that grows outward from the triangle of its start.
 ghost use Rattle.std.specs.Prelude.{◌≡◌, ◌+◌, ◌*◌, ◌<◌, ◌≤◌, ℕ, IfOk, None, List, OnOk, length, replicate};
 ghost use Rattle.plane.specs.Point.{whole};
 ghost use Rattle.meshes.specs.Fits.{Fits, IsInTri};

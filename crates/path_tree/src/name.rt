@@ -1,3 +1,4 @@
+// The names of corners and of the start.
 ghost use Rattle.std.specs.Prelude.{◌≡◌, ◌≢◌};
 ghost use Rattle.exact_plane.specs.declared.turns.Spot.TheVariants.{Corner, Start};
 

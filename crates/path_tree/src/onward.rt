@@ -1,3 +1,4 @@
+// The step from the funnel of a triangle to that of the next one.
 ghost use Rattle.std.specs.Prelude.{◌+◌, ◌*◌, ◌<◌, ◌≤◌, IfOk, length};
 ghost use Rattle.shared_seq.specs.Digits.{binary_digits};
 ghost use Rattle.path_tree.specs.Entered.{IsFromStart, IsFunnelTo, toward};

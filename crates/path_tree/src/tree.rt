@@ -1,3 +1,4 @@
+// The shortest path tree of a start.
 ghost use Rattle.std.specs.List.{All};
 ghost use Rattle.std.specs.Prelude.{◌≡◌, ◌≢◌, ◌+◌, ◌*◌, ◌<◌, ◌≤◌, ◌++◌, ◌∷◌, [], List, IfOk, None, drop, length, reverse, take, vec_capacity};
 ghost use Rattle.plane.specs.Point.{Point, whole};

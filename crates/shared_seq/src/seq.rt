@@ -1,3 +1,4 @@
+// A persistent sequence of numbers: the type, and its queries.
 ghost use Rattle.std.specs.Prelude.{◌≡◌, ◌+◌, ◌*◌, ◌^◌, ◌<◌, ◌≤◌, [], ◌∷◌, IfOk, length, slice_index};
 ghost use Rattle.shared_seq.specs.Digits.{binary_digits};
 ghost use Rattle.shared_seq.specs.Tree.{lent_at, tree_at};

@@ -1,3 +1,4 @@
+// The left and the right side of a node.
 ghost use Rattle.std.specs.Prelude.{◌≡◌, ◌↔◌, IsTrue};
 ghost use Rattle.shared_seq.specs.Tree.{other_tree_side};
 
