@@ -6,7 +6,7 @@ ghost use Rattle.rings.proofs.Sweeps.{events_are_one};
 ghost use Rattle.rings.specs.Events.{AreEvents, IsEvent};
 ghost use Rattle.rings.specs.Ring.{vertex};
 
-use crate::clash::corner;
+use edge_index::corner;
 use exact_plane::{Pt, Steps, order};
 use std::cmp::Ordering;
 use std::sync::ledger::Ledger;

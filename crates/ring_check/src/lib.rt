@@ -1,26 +1,35 @@
 //! Simple polygons: a list of points is accepted exactly if no two of its edges clash.
 #![tactic(auto)]
 
-mod boxes;
-mod clash;
-mod cover;
-mod events;
-mod frame;
-mod gap_list;
-mod index;
-mod kinds;
-mod laws;
-mod order;
-mod orientation;
-mod place;
-mod probe;
+// Polygons.
 mod ring;
-mod runs;
-mod slab;
-mod slabs;
-mod status;
+
+// Lists of points read counterclockwise.
+mod orientation;
+
+// The sweep, which accepts most lists that are simple.
 mod sweep;
-mod walk;
+
+// Its events: the vertices in lexicographic order.
+mod order;
+
+// The events with their ranks.
+mod events;
+
+// The status of the sweep, and the list that it is kept in.
+mod status;
+
+// The list.
+mod gap_list;
+
+// The search of the least clash, a scan of all pairs of edges.
+mod clash;
+
+// The edges that the scan leaves out.
+mod candidates;
+
+// Laws about lists of points.
+mod laws;
 
 pub use laws::{crossing_parity, winding_across};
 pub use order::{lexical_order, ranks_of};

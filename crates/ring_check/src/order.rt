@@ -8,7 +8,7 @@ ghost use Rattle.rings.specs.Simple.{IsSimple};
 ghost use Rattle.ring_check.specs.Keys.{AreKeys, key_of, keyed_number, raised};
 ghost use Rattle.ring_check.specs.Order.{IsInOrder};
 
-use crate::clash::corner;
+use edge_index::corner;
 use exact_plane::{Memory, Pt, Steps};
 use std::alloc::Global;
 use std::sync::ledger::Ledger;

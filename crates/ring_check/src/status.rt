@@ -9,9 +9,9 @@ ghost use Rattle.rings.specs.Status.{FitsAt, IsEdgeBelow, IsStacked, one, times}
 ghost use Rattle.exact_plane.specs.Direction.{turn_of};
 ghost use Rattle.ring_check.specs.Ends.{AreVertices, edge_between};
 
-use crate::clash::corner;
 use crate::events::Events;
 use crate::gap_list::GapList;
+use edge_index::corner;
 use exact_plane::{Direction, Pt, Steps, turn};
 use std::sync::ledger::Ledger;
 
