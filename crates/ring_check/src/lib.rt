@@ -10,16 +10,19 @@ mod orientation;
 // The sweep, which accepts most lists that are simple.
 mod sweep;
 
-// Its events: the vertices in lexicographic order.
+// The vertices in lexicographic order.
 mod order;
 
-// The events with their ranks.
+// The events of the sweep: that order, and the rank of each vertex.
 mod events;
 
-// The status of the sweep, and the list that it is kept in.
+// The status of the sweep.
 mod status;
 
-// The list.
+// Which of two edges is below the other.
+mod edge_order;
+
+// The list that the status is kept in.
 mod gap_list;
 
 // The search of the least clash, a scan of all pairs of edges.
@@ -32,6 +35,6 @@ mod candidates;
 mod laws;
 
 pub use laws::{crossing_parity, winding_across};
-pub use order::{lexical_order, ranks_of};
+pub use order::ranks_of;
 pub use ring::{Ring, RingFault};
 pub use sweep::sweep_finds_none;

@@ -1,7 +1,7 @@
 use Rattle.std.proofs.Common.{ap, arith, refl}
 use Rattle.rings.specs.Ring.{vertex}
 use Rattle.ring_check.proofs.Below.{below_as, by_both, by_finish, by_start}
-use Rattle.ring_check.proofs.status.is_below.Goals as goal
+use Rattle.ring_check.proofs.edge_order.is_below.Goals as goal
 
 pub returns-in-true-false-clause-below : goal.returns-in-true-false-clause-below
 returns-in-true-false-clause-below g c = λ h.

@@ -1,5 +1,5 @@
 use Rattle.ring_check.proofs.EdgeEnds.{ends_downward, ends_upward}
-use Rattle.ring_check.proofs.status.ends_of.Goals as goal
+use Rattle.ring_check.proofs.edge_order.ends_of.Goals as goal
 
 pub returns-then-events-e-clause-first : goal.returns-then-events-e-clause-first
 returns-then-events-e-clause-first c = (ends_upward c.args.events.now.ranks.now c.args.e c.next-after.result c.next-after.ensures.number c.if-events-e.true).0

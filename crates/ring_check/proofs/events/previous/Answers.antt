@@ -1,6 +1,6 @@
 use Rattle.std.proofs.Common.{arith}
 use Rattle.ring_check.proofs.EdgeEnds.{if_less, if_not_less}
-use Rattle.ring_check.proofs.sweep.previous.Goals as goal
+use Rattle.ring_check.proofs.events.previous.Goals as goal
 
 pub returns-then-v-gt0-clause-number : goal.returns-then-v-gt0-clause-number
 returns-then-v-gt0-clause-number c = if_less _ c.if-v-gt0.true
