@@ -1,12 +1,12 @@
 use Rattle.sweep_tri.proofs.Pieces.{boundary_counterclockwise, boundary_long, boundary_monotone, boundary_numbers, boundary_simple}
 use Rattle.sweep_tri.proofs.RankOrder.{ranks_are}
-use Rattle.sweep_tri.proofs.gap.Region.close.Goals as goal
+use Rattle.sweep_tri.proofs.region.Region.close.Goals as goal
 
 pub fill-requires : goal.fill-requires
 fill-requires g c =
-    let corners = g.T.Turns.corners c.args.board.now in
+    let corners = g.T.Turns.corners c.args.ring.now.board.now in
     let order = c.requires.ranked.order in
-    let ranks = c.args.rank.now in
+    let ranks = c.args.ring.now.rank.now in
     let events = c.requires.ranked.events in
     let some = c.requires.ranked.some in
     rw (c.deref.ensures.value, c.in_ok-piece.ensures) (record {
