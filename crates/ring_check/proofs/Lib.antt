@@ -1,19 +1,11 @@
 mod AreaSoFar
 mod Below
-mod Bounds
 mod EdgeEnds
-mod EdgeRuns
 mod GapMoves
-mod LineNumbers
-mod LineSides
-mod Multiples
 mod Orders
 pub mod Oriented
-mod ProbeNumbers
 mod Reflex
 mod SharedPoints
-mod SlabNumbers
-mod SlabSides
 mod StatusEdits
 mod SweptArea
 mod TwoEdits

@@ -5,7 +5,8 @@ use Rattle.plane.specs.Point.{Point, whole}
 use Rattle.plane.specs.Segment.{Meet, MeetElsewhere, MeetOnlyAt, On}
 use Rattle.rings.proofs.Vertices.{vertex_after_last}
 use Rattle.rings.specs.Ring.{vertex}
-use Rattle.rings.specs.Simple.{Clash, IsLeastClash, SharesPoint}
+use Rattle.rings.specs.Simple.{Clash, HasEqualEnds, IsLeastClash, SharesPoint}
+use Rattle.edge_index.specs.Candidates.{IsLeftOut}
 
 module _ (ring : List Point) (three : 3 ≤ length ring) where
   -- edges that follow one another
@@ -46,6 +47,15 @@ meet_of_shared ring i j shared = record {
   on_first = shared.on_first;
   on_second = shared.on_second;
 }
+
+-- an edge with two ends clashes with none above it that an index leaves out
+pub clear_of_left_out : (ring : List Point) (i e : ℕ) → (HasEqualEnds ring i → ⊥) → IsLeftOut ring i e → i < e → Clash ring i e → ⊥
+clear_of_left_out ring i e differ (inl not_above) below clash = absurd (omega (arith, not_above, below))
+clear_of_left_out ring i e differ (inr h) below clash = elim clash [
+  | inl equal ↦ differ equal
+  | inr (inl equal) ↦ h.differ equal
+  | inr (inr shared) ↦ h.apart (meet_of_shared ring i e shared)
+]
 
 -- a test that fails exactly where there is such a point
 pub fails_where : {P : Type 0} (test : Bool) → (test ≡ false → P) → (test ≡ true → ¬ P) → IsTrue (not test) ↔ P

@@ -3,7 +3,7 @@ use Rattle.std.specs.Prelude.{◌<◌, List, length}
 use Rattle.plane.specs.Point.{Point}
 use Rattle.rings.specs.Edge.{Edge, edge}
 use Rattle.rings.specs.Ring.{vertex}
-use Rattle.ring_check.specs.declared.status.Ends.{Ends}
+use Rattle.ring_check.specs.declared.edge_order.Ends.{Ends}
 
 -- both are vertices
 pub record AreVertices (ring : List Point) (e : Ends) : Type 0 where

@@ -1,9 +1,4 @@
-pub mod Boxes
-pub mod Covers
 pub mod Ends
 pub mod Keys
 pub mod Order
 pub mod Oriented
-pub mod Probes
-pub mod Runs
-pub mod Slabs

@@ -1,9 +1,11 @@
+// The search of the least clash: a scan of all pairs of edges, and the tests of one pair.
 ghost use Rattle.std.specs.Prelude.{◌≡◌, ◌+◌, ◌*◌, ◌<◌, ◌≤◌, ◌^◌, ◌↔◌, ℕ, IsTrue, IfSome, IfNone, length};
 ghost use Rattle.rings.specs.Ring.{vertex};
 ghost use Rattle.rings.specs.Simple.{Clash, HasEqualEnds, IsLeastClash, IsSimple, SharesPoint};
-ghost use Rattle.ring_check.specs.Runs.{IsEdgeIndex};
+ghost use Rattle.edge_index.specs.Candidates.{IsEdgeIndex};
 
-use crate::index::Index;
+use crate::candidates::is_clear;
+use edge_index::{EdgeIndex, corner};
 use exact_plane::{Pt, Steps, meet_only_at, order, segments_meet};
 use std::alloc::Global;
 use std::cmp::Ordering;
@@ -25,7 +27,7 @@ pub fn find_clash<L: Ledger>(
     if let Some(j) = least_clash_with(points, 0, steps) {
         return Some((0, j));
     }
-    match Index::of(alloc, points, steps) {
+    match EdgeIndex::of(alloc, points, steps) {
         Ok(index) => least_clash(points, &index, steps),
         Err(_) => least_clash(points, &None, steps),
     }
@@ -35,7 +37,7 @@ pub fn find_clash<L: Ledger>(
 // steps for n points.
 fn least_clash<L: Ledger>(
     points: &[Pt],
-    index: &Option<Index>,
+    index: &Option<EdgeIndex>,
     steps: &mut Steps<L>,
 ) -> Option<(usize, usize)>
     requires three { 3 ≤ length points.now }
@@ -52,20 +54,6 @@ fn least_clash<L: Ledger>(
         }
     }
     None
-}
-
-// Whether an index shows that edge i clashes with no edge above it.
-fn is_clear<L: Ledger>(points: &[Pt], index: &Option<Index>, i: usize, steps: &mut Steps<L>) -> bool
-    requires three { 3 ≤ length points.now }
-    requires index { IfSome index.now (λ index. IsEdgeIndex points.now index) }
-    requires edge { i < length points.now }
-    ensures clear { IsTrue result → (l : ℕ) → i < l → l < length points.now → Clash points.now i l → ⊥ }
-    ensures steps { steps.new ≤ steps.old + (257 + 34 * length points.now) }
-{
-    match index {
-        Some(index) => index.is_clear(points, i, steps),
-        None => false,
-    }
 }
 
 // The least edge above i that clashes with edge i. It takes at most 18 steps for each edge above i.
@@ -131,17 +119,4 @@ pub(crate) fn has_equal_ends<L: Ledger>(points: &[Pt], i: usize, steps: &mut Ste
     ensures steps { steps.new ≡ steps.old + 1 }
 {
     order(&corner(points, i), &corner(points, i + 1), steps) == Ordering::Equal
-}
-
-// Vertex i, counted round.
-pub(crate) fn corner(points: &[Pt], i: usize) -> Pt
-    requires some { 0 < length points.now }
-    requires range { i ≤ length points.now }
-    ensures { result ≡ vertex points.now i }
-{
-    if i < points.len() {
-        points[i]
-    } else {
-        points[0]
-    }
 }

@@ -3,10 +3,10 @@ ghost use Rattle.std.specs.List.{All};
 ghost use Rattle.std.specs.Prelude.{◌≡◌, ◌<◌, ◌≤◌, ◌^◌, ◌+◌, IfSome, IsTrue, length};
 ghost use Rattle.plane.specs.Order.{IsBefore};
 ghost use Rattle.rings.proofs.Sweeps.{events_are_one};
-ghost use Rattle.rings.specs.Events.{AreEvents, IsEvent};
+ghost use Rattle.rings.specs.Events.{AreEvents, IsEvent, next, previous};
 ghost use Rattle.rings.specs.Ring.{vertex};
 
-use crate::clash::corner;
+use edge_index::corner;
 use exact_plane::{Pt, Steps, order};
 use std::cmp::Ordering;
 use std::sync::ledger::Ledger;
@@ -100,4 +100,30 @@ fn is_before<L: Ledger>(points: &[Pt], v: u32, w: u32, steps: &mut Steps<L>) -> 
         &corner(points, w as usize),
         steps,
     ) == Ordering::Less
+}
+
+// The vertex after vertex `v`.
+pub(crate) fn next(events: &Events, v: u32) -> u32
+    requires { v < length events.now.points.now }
+    ensures number { result ≡ next (length events.now.ranks.now) v }
+    ensures below { result < length events.now.points.now }
+{
+    if v as usize + 1 < events.ranks.len() {
+        v + 1
+    } else {
+        0
+    }
+}
+
+// The vertex before vertex `v`.
+pub(crate) fn previous(events: &Events, v: u32) -> u32
+    requires { v < length events.now.points.now }
+    ensures number { result ≡ previous (length events.now.ranks.now) v }
+    ensures below { result < length events.now.points.now }
+{
+    if 0 < v {
+        v - 1
+    } else {
+        events.ranks.len() as u32 - 1
+    }
 }

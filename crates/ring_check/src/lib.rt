@@ -1,28 +1,40 @@
 //! Simple polygons: a list of points is accepted exactly if no two of its edges clash.
 #![tactic(auto)]
 
-mod boxes;
-mod clash;
-mod cover;
-mod events;
-mod frame;
-mod gap_list;
-mod index;
-mod kinds;
-mod laws;
-mod order;
-mod orientation;
-mod place;
-mod probe;
+// Polygons.
 mod ring;
-mod runs;
-mod slab;
-mod slabs;
-mod status;
+
+// Lists of points read counterclockwise.
+mod orientation;
+
+// The sweep, which accepts most lists that are simple.
 mod sweep;
-mod walk;
+
+// The vertices in lexicographic order.
+mod order;
+
+// The events of the sweep: that order, and the rank of each vertex.
+mod events;
+
+// The status of the sweep.
+mod status;
+
+// Which of two edges is below the other.
+mod edge_order;
+
+// The list that the status is kept in.
+mod gap_list;
+
+// The search of the least clash, a scan of all pairs of edges.
+mod clash;
+
+// The edges that the scan leaves out.
+mod candidates;
+
+// Laws about lists of points.
+mod laws;
 
 pub use laws::{crossing_parity, winding_across};
-pub use order::{lexical_order, ranks_of};
+pub use order::ranks_of;
 pub use ring::{Ring, RingFault};
 pub use sweep::sweep_finds_none;

@@ -8,14 +8,14 @@ ghost use Rattle.rings.specs.Simple.{IsSimple};
 ghost use Rattle.ring_check.specs.Keys.{AreKeys, key_of, keyed_number, raised};
 ghost use Rattle.ring_check.specs.Order.{IsInOrder};
 
-use crate::clash::corner;
+use edge_index::corner;
 use exact_plane::{Memory, Pt, Steps};
 use std::alloc::Global;
 use std::sync::ledger::Ledger;
 
-/// All vertices of a list by their numbers, by x, then by y. Those of a simple list are in lexicographic order. It takes at most
-/// 64 steps for each vertex.
-pub fn lexical_order<L: Ledger>(
+// All vertices of a list by their numbers, by x, then by y. Those of a simple list are in lexicographic order. It takes at most
+// 64 steps for each vertex.
+pub(crate) fn lexical_order<L: Ledger>(
     alloc: Global,
     points: &[Pt],
     steps: &mut Steps<L>,
@@ -100,7 +100,7 @@ pub(crate) fn copied<L: Ledger>(
     Ok(copy)
 }
 
-/// The place of each vertex in the order.
+/// Returns the place of each vertex in the order, in O(n) time and no step.
 pub fn ranks_of(alloc: Global, order: &[u32]) -> Result<Vec<u32>, Memory>
     requires short { length order.now < 2 ^ 32 }
     ensures { IfOk result (λ ranks. (corners : List Point) → IsInOrder corners order.now → AreEvents corners order.now ranks.items) }

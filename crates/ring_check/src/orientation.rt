@@ -1,3 +1,4 @@
+// The area of a list of points, and the list read counterclockwise.
 ghost use Rattle.std.specs.Prelude.{◌≡◌, ◌+◌, ◌*◌, ◌<◌, ◌≤◌, ◌^◌, ◌*ℤ◌, ◌-ℤ◌, length, unsigned_abs};
 ghost use Rattle.plane.specs.Point.{IsInBounds};
 ghost use Rattle.plane.specs.declared.limits.TheConstants.{MAX_CORNERS};

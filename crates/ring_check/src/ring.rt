@@ -1,3 +1,4 @@
+// Simple polygons, made of lists of points.
 ghost use Rattle.std.specs.Prelude.{◌≡◌, ◌+◌, ◌*◌, ◌-◌, ◌<◌, ◌≤◌, ◌^◌, ◌↔◌, ℕ, IfOk, OnOk, IsOk, IsTrue, Err, false, length, vec_len};
 ghost use Rattle.plane.specs.Point.{whole};
 ghost use Rattle.plane.specs.declared.limits.TheConstants.{MAX_CORNERS};

@@ -1,18 +1,12 @@
 // The status of a sweep: the edges that the sweep line meets, each below the next.
 ghost use Rattle.std.specs.List.{All, remove};
 ghost use Rattle.std.specs.Prelude.{◌≡◌, ◌+◌, ◌*◌, ◌<◌, ◌≤◌, ◌^◌, IsTrue, ℕ, length, slice_index};
-ghost use Rattle.plane.specs.Point.{whole};
-ghost use Rattle.rings.specs.Below.{EndsBelow, StartsBelow};
-ghost use Rattle.rings.specs.Events.{first_end, last_end, next};
-ghost use Rattle.rings.specs.Ring.{vertex};
-ghost use Rattle.rings.specs.Status.{FitsAt, IsEdgeBelow, IsStacked, one, times};
-ghost use Rattle.exact_plane.specs.Direction.{turn_of};
-ghost use Rattle.ring_check.specs.Ends.{AreVertices, edge_between};
+ghost use Rattle.rings.specs.Status.{FitsAt, IsStacked, one, times};
 
-use crate::clash::corner;
+use crate::edge_order::{Ends, ends_of, goes_below, is_below};
 use crate::events::Events;
 use crate::gap_list::GapList;
-use exact_plane::{Direction, Pt, Steps, turn};
+use exact_plane::Steps;
 use std::sync::ledger::Ledger;
 
 // Removes edges `u` and `v`, which end at vertex `v`, the first of them from vertex `u`. It answers false where they are not found
@@ -67,27 +61,25 @@ fn remove_two<L: Ledger>(
     fits(events, status, place, steps)
 }
 
-// Puts edge `f`, which begins at vertex `v`, in the place of edge `e`, which goes from `w` to `v`. It takes at most 2 d + 4 steps, where
-// there are fewer edges than 2 to the power d.
+// Puts edge `f`, which begins where edge `e` ends, in its place. It answers false where edge `e` is not found or those beside edge `f` do
+// not fit; nothing is known then. It takes at most 2 d + 4 steps, where there are fewer edges than 2 to the power d.
 pub(crate) fn replace<L: Ledger>(
     events: &Events,
     status: &mut GapList,
     e: u32,
     f: u32,
-    v: u32,
-    w: u32,
     steps: &mut Steps<L>,
 ) -> bool
     requires stacked { IsStacked events.now.points.now events.now.ranks.now status.old }
+    requires e { e < length events.now.points.now }
     requires f { f < length events.now.points.now }
-    requires v { v < length events.now.points.now }
-    requires w { w < length events.now.points.now }
     ensures stacked { IsTrue result → IsStacked events.now.points.now events.now.ranks.now status.new }
     ensures times { IsTrue result → (x : ℕ) → times x status.new + one x e ≡ times x status.old + one x f }
     ensures length { length status.new ≤ length status.old }
     ensures steps { (d : ℕ) → length status.old < 2 ^ d → steps.new ≤ steps.old + (2 * d + 4) }
 {
-    let place = place_of(events, status, v, w, steps);
+    let Ends { first, last } = ends_of(events, e);
+    let place = place_of(events, status, last, first, steps);
     if place == status.len() || status.at(place) != e {
         return false;
     }
@@ -174,21 +166,6 @@ fn place_of<L: Ledger>(
     low
 }
 
-// Whether edge `e` goes below vertex `v`, or through it and below `w`. It takes at most 2 steps.
-fn goes_below<L: Ledger>(events: &Events, e: u32, v: u32, w: u32, steps: &mut Steps<L>) -> bool
-    requires edge { e < length events.now.points.now }
-    requires v { v < length events.now.points.now }
-    requires w { w < length events.now.points.now }
-    ensures { steps.new ≤ steps.old + 2 }
-{
-    let Ends { first, last } = ends_of(events, e);
-    match turn_at(events, first, last, v, steps) {
-        Direction::Left => true,
-        Direction::Right => false,
-        Direction::Straight => turns(events, Direction::Left, first, last, w, steps),
-    }
-}
-
 // Whether the edge at a place is above the one before it, where there are both. It takes at most 2 steps.
 fn fits<L: Ledger>(events: &Events, status: &GapList, place: usize, steps: &mut Steps<L>) -> bool
     requires { All (λ e. e < length events.now.points.now) status.now }
@@ -222,122 +199,4 @@ fn fit_three<L: Ledger>(
         return false;
     }
     fits(events, status, place + 2, steps)
-}
-
-// Whether edge `e` is below edge `f`. It takes at most 2 steps.
-fn is_below<L: Ledger>(events: &Events, e: u32, f: u32, steps: &mut Steps<L>) -> bool
-    requires e { e < length events.now.points.now }
-    requires f { f < length events.now.points.now }
-    ensures below { IsTrue result → IsEdgeBelow events.now.points.now events.now.ranks.now e f }
-    ensures steps { steps.new ≤ steps.old + 2 }
-{
-    let lower = ends_of(events, e);
-    let upper = ends_of(events, f);
-    match (lower.first == upper.first, lower.last == upper.last) {
-        (true, true) => false,
-        (true, false) => ends_below(events, lower, upper, steps),
-        (false, true) => starts_below(events, lower, upper, steps),
-        (false, false) => starts_below(events, lower, upper, steps)
-            && ends_below(events, lower, upper, steps),
-    }
-}
-
-// Whether edge `e` is below edge `f` where the later of them begins. It takes one step.
-fn starts_below<L: Ledger>(events: &Events, e: Ends, f: Ends, steps: &mut Steps<L>) -> bool
-    requires e { AreVertices events.now.points.now e }
-    requires f { AreVertices events.now.points.now f }
-    ensures below { IsTrue result → StartsBelow (edge_between events.now.points.now e) (edge_between events.now.points.now f) }
-    ensures steps { steps.new ≡ steps.old + 1 }
-{
-    if events.ranks[e.first as usize] < events.ranks[f.first as usize] {
-        turns(events, Direction::Left, e.first, e.last, f.first, steps)
-    } else {
-        turns(events, Direction::Right, f.first, f.last, e.first, steps)
-    }
-}
-
-// Whether it is below where the first of them ends. It takes one step.
-fn ends_below<L: Ledger>(events: &Events, e: Ends, f: Ends, steps: &mut Steps<L>) -> bool
-    requires e { AreVertices events.now.points.now e }
-    requires f { AreVertices events.now.points.now f }
-    ensures below { IsTrue result → EndsBelow (edge_between events.now.points.now e) (edge_between events.now.points.now f) }
-    ensures steps { steps.new ≡ steps.old + 1 }
-{
-    if events.ranks[e.last as usize] < events.ranks[f.last as usize] {
-        turns(events, Direction::Right, f.first, f.last, e.last, steps)
-    } else {
-        turns(events, Direction::Left, e.first, e.last, f.last, steps)
-    }
-}
-
-// The ends of an edge, that of lower rank first.
-#[derive(Clone, Copy)]
-struct Ends {
-    first: u32,
-    last: u32,
-}
-
-// The ends of edge `e`.
-fn ends_of(events: &Events, e: u32) -> Ends
-    requires { e < length events.now.points.now }
-    ensures first { result.first ≡ first_end events.now.ranks.now e }
-    ensures last { result.last ≡ last_end events.now.ranks.now e }
-    ensures vertices { AreVertices events.now.points.now result }
-{
-    let after = next(events, e);
-    if events.ranks[e as usize] < events.ranks[after as usize] {
-        Ends {
-            first: e,
-            last: after,
-        }
-    } else {
-        Ends {
-            first: after,
-            last: e,
-        }
-    }
-}
-
-// The vertex after vertex `v`.
-pub(crate) fn next(events: &Events, v: u32) -> u32
-    requires { v < length events.now.points.now }
-    ensures number { result ≡ next (length events.now.ranks.now) v }
-    ensures below { result < length events.now.points.now }
-{
-    if v as usize + 1 < events.ranks.len() {
-        v + 1
-    } else {
-        0
-    }
-}
-
-// Whether the turn from vertex `a` over `b` to `c` goes this way. It takes one step.
-fn turns<L: Ledger>(
-    events: &Events,
-    way: Direction,
-    a: u32,
-    b: u32,
-    c: u32,
-    steps: &mut Steps<L>,
-) -> bool
-    requires a { a < length events.now.points.now }
-    requires b { b < length events.now.points.now }
-    requires c { c < length events.now.points.now }
-    ensures way { IsTrue result → turn_of (whole (vertex events.now.points.now a)) (whole (vertex events.now.points.now b)) (whole (vertex events.now.points.now c)) ≡ way }
-    ensures steps { steps.new ≡ steps.old + 1 }
-{
-    turn_at(events, a, b, c, steps) == way
-}
-
-// The turn from vertex `a` over `b` to `c`. It takes one step.
-fn turn_at<L: Ledger>(events: &Events, a: u32, b: u32, c: u32, steps: &mut Steps<L>) -> Direction
-    requires a { a < length events.now.points.now }
-    requires b { b < length events.now.points.now }
-    requires c { c < length events.now.points.now }
-    ensures turn { result ≡ turn_of (whole (vertex events.now.points.now a)) (whole (vertex events.now.points.now b)) (whole (vertex events.now.points.now c)) }
-    ensures steps { steps.new ≡ steps.old + 1 }
-{
-    let a = corner(events.points, a as usize);
-    let b = corner(events.points, b as usize);
-    turn(&a, &b, &corner(events.points, c as usize), steps)
 }

@@ -1,14 +1,13 @@
 //! A sweep in lexicographic order, which shows of most simple rings that they are simple. After Shamos and Hoey 1976.
 ghost use Rattle.std.specs.Prelude.{◌≡◌, ◌+◌, ◌*◌, ◌<◌, ◌≤◌, ◌^◌, ℕ, IfOk, IfSome, IsTrue, length};
-ghost use Rattle.rings.specs.Events.{previous};
 ghost use Rattle.rings.specs.Simple.{IsSimple};
 ghost use Rattle.rings.specs.Status.{IsStatus};
 ghost use Rattle.ring_check.specs.Order.{IsInOrder};
 
-use crate::events::Events;
+use crate::events::{Events, next, previous};
 use crate::gap_list::GapList;
 use crate::order::{lexical_order, ranks_of};
-use crate::status::{insert_both, next, remove_both, replace};
+use crate::status::{insert_both, remove_both, replace};
 use exact_plane::{Memory, Pt, Steps};
 use plane::MAX_CORNERS;
 use std::alloc::Global;
@@ -121,21 +120,8 @@ fn passes<L: Ledger>(events: &Events, status: &mut GapList, k: u32, steps: &mut 
     let (u, w) = (previous(events, v), next(events, v));
     match (events.ranks[u as usize] < k, events.ranks[w as usize] < k) {
         (true, true) => remove_both(events, status, u, v, steps),
-        (true, false) => replace(events, status, u, v, v, u, steps),
-        (false, true) => replace(events, status, v, u, v, w, steps),
+        (true, false) => replace(events, status, u, v, steps),
+        (false, true) => replace(events, status, v, u, steps),
         (false, false) => insert_both(events, status, u, v, w, steps),
-    }
-}
-
-// The vertex before vertex `v`.
-fn previous(events: &Events, v: u32) -> u32
-    requires { v < length events.now.points.now }
-    ensures number { result ≡ previous (length events.now.ranks.now) v }
-    ensures below { result < length events.now.points.now }
-{
-    if 0 < v {
-        v - 1
-    } else {
-        events.ranks.len() as u32 - 1
     }
 }

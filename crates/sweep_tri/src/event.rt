@@ -15,6 +15,7 @@ mod regular;
 mod split;
 mod start;
 
+use crate::board::RankedBoard;
 use crate::gap::Fork;
 use crate::status::Status;
 use exact_plane::{Direction, Memory, Spot, Steps, Turns};
@@ -54,64 +55,61 @@ impl Sweep {
         ensures swept { OnOk result (IsSwept (T.corners board.now) rank.now (slice_index rank.now v + 1) self.new.status self.new.tris.items) }
         ensures work { IsAccounted result self.old.status self.new.status (200 * binary_digits (length (T.corners board.now))) steps.old steps.new }
     {
+        let ring = &RankedBoard { alloc, board, rank };
         let j = self.status.place(board, v, steps);
         let (a, b) = neighbours(rank.len() as u32, v);
         let (a_begins, b_begins) = (is_after(rank, a, v), is_after(rank, b, v));
         if a_begins && b_begins {
             let fork = fork_of(board, v, a, b, steps);
-            self.begin(alloc, board, rank, j, fork, steps)
+            self.begin(ring, j, fork, steps)
         } else if a_begins {
-            self.go_on(alloc, board, rank, j, v, a, steps)
+            self.go_on(ring, j, v, a, steps)
         } else if b_begins {
-            self.go_on(alloc, board, rank, j, v, b, steps)
+            self.go_on(ring, j, v, b, steps)
         } else {
-            self.finish(alloc, board, rank, j, v, steps)
+            self.finish(ring, j, v, steps)
         }
     }
 
     // Two edges begin.
     fn begin<T: Turns, L: Ledger>(
         &mut self,
-        alloc: Global,
-        board: &T,
-        rank: &[u32],
+        ring: &RankedBoard<T>,
         j: usize,
         fork: Fork,
         steps: &mut Steps<L>,
     ) -> Result<(), Memory>
-        requires next { IsNextEvent (T.corners board.now) rank.now self.old.status self.old.tris.items fork.vertex }
-        requires place { IsGapPlace (T.corners board.now) self.old.status fork.vertex j }
-        requires begins { Begins (T.corners board.now) rank.now fork }
-        ensures swept { OnOk result (IsSwept (T.corners board.now) rank.now (slice_index rank.now fork.vertex + 1) self.new.status self.new.tris.items) }
+        requires next { IsNextEvent (T.corners ring.now.board.now) ring.now.rank.now self.old.status self.old.tris.items fork.vertex }
+        requires place { IsGapPlace (T.corners ring.now.board.now) self.old.status fork.vertex j }
+        requires begins { Begins (T.corners ring.now.board.now) ring.now.rank.now fork }
+        ensures swept { OnOk result (IsSwept (T.corners ring.now.board.now) ring.now.rank.now (slice_index ring.now.rank.now fork.vertex + 1) self.new.status self.new.tris.items) }
         ensures work { IsAccounted result self.old.status self.new.status event_work steps.old steps.new }
     {
-        if 0 < j && self.is_under(board, j - 1, fork.vertex, steps) {
-            self.split(alloc, rank, j - 1, fork)
+        if 0 < j && self.is_under(ring.board, j - 1, fork.vertex, steps) {
+            self.split(ring.alloc, ring.rank, j - 1, fork)
         } else {
-            self.start(alloc, j, fork)
+            self.start(ring.alloc, j, fork)
         }
     }
 
     // Two edges end.
     fn finish<T: Turns, L: Ledger>(
         &mut self,
-        alloc: Global,
-        board: &T,
-        rank: &[u32],
+        ring: &RankedBoard<T>,
         j: usize,
         v: u32,
         steps: &mut Steps<L>,
     ) -> Result<(), Memory>
-        requires next { IsNextEvent (T.corners board.now) rank.now self.old.status self.old.tris.items v }
-        requires place { IsGapPlace (T.corners board.now) self.old.status v j }
-        requires finishes { Finishes rank.now v }
-        ensures swept { OnOk result (IsSwept (T.corners board.now) rank.now (slice_index rank.now v + 1) self.new.status self.new.tris.items) }
+        requires next { IsNextEvent (T.corners ring.now.board.now) ring.now.rank.now self.old.status self.old.tris.items v }
+        requires place { IsGapPlace (T.corners ring.now.board.now) self.old.status v j }
+        requires finishes { Finishes ring.now.rank.now v }
+        ensures swept { OnOk result (IsSwept (T.corners ring.now.board.now) ring.now.rank.now (slice_index ring.now.rank.now v + 1) self.new.status self.new.tris.items) }
         ensures work { IsAccounted result self.old.status self.new.status event_work steps.old steps.new }
     {
         if self.status.get(j).up_front().1 == v {
-            self.end(alloc, board, rank, j, v, steps)
+            self.end(ring, j, v, steps)
         } else {
-            self.merge(alloc, board, rank, j, v, steps)
+            self.merge(ring, j, v, steps)
         }
     }
 

@@ -1,35 +1,21 @@
-// The open regions between two edges that the sweep line meets.
-ghost use Rattle.std.specs.Prelude.{◌≡◌, ◌+◌, ◌*◌, ◌-◌, ◌≤◌, ◌<◌, IfOk, OnOk, Some, [], ◌∷◌, ◌++◌, length, take};
+// What lies between two edges that the sweep line meets: one open region, or two.
+ghost use Rattle.std.specs.Prelude.{◌≡◌, ◌+◌, ◌*◌, ◌≤◌, ◌<◌, IfOk, OnOk, Some, [], ◌∷◌, ◌++◌, length};
 ghost use Rattle.std.specs.List.{All};
-ghost use Rattle.mono_fill.specs.Filled.{IsFilled};
 ghost use Rattle.mono_fill.specs.Sides.{other_chain_side};
-ghost use Rattle.sweep_tri.specs.Entries.{entries, entries_of_all};
-ghost use Rattle.sweep_tri.specs.Gaps.{before_last, highest, last, low_front, no_gap, up_front};
-ghost use Rattle.sweep_tri.specs.Meeting.{AreFilled, above_latest, at_edge, below_latest, beside_front, closed_at, gap_of, left_at, past_diagonal, region_from, split_above, split_below, with_vertex};
+ghost use Rattle.sweep_tri.specs.Entries.{entries_of_all};
+ghost use Rattle.sweep_tri.specs.Gaps.{before_last, highest, low_front, no_gap, up_front};
+ghost use Rattle.sweep_tri.specs.Meeting.{AreFilled, at_edge, closed_at, gap_of, left_at, region_from, split_above, split_below};
 ghost use Rattle.sweep_tri.specs.Ranked.{IsRanked};
-ghost use Rattle.sweep_tri.specs.Region.{IsClosedRegion, boundary, seen_from};
+ghost use Rattle.sweep_tri.specs.Region.{IsClosedRegion};
 
+use crate::board::RankedBoard;
+use crate::chain::{front_of, two};
+use crate::region::Region;
 use exact_plane::{Memory, Steps, Turns};
 use meshes::Tri;
-use mono_fill::{Side, fill};
+use mono_fill::Side;
 use std::alloc::Global;
-use std::marker::Model;
 use std::sync::ledger::Ledger;
-
-// A region between a lower and an upper chain, which rise from their common first vertex.
-#[derive(Drop)]
-pub(crate) struct Region {
-    lower: Vec<u32>,
-    upper: Vec<u32>,
-}
-
-impl Model for Region {
-    ghost use Rattle.sweep_tri.specs.Region.{Chains};
-
-    ghost Value = { Chains };
-
-    ghost view = { λ region. record { lower = region.lower.items; upper = region.upper.items } };
-}
 
 // What lies between two edges: one region, or two that meet at a merge vertex.
 #[derive(Drop)]
@@ -44,115 +30,6 @@ pub(crate) struct Fork {
     pub(crate) vertex: u32,
     pub(crate) below: u32,
     pub(crate) above: u32,
-}
-
-impl Region {
-    // Adds a vertex at the end of the chain on this side.
-    pub(crate) fn extend(&mut self, side: Side, v: u32) -> Result<(), Memory>
-        ensures { OnOk result (self.new ≡ with_vertex side self.old v) }
-    {
-        match side {
-            Side::Lower => Ok(self.lower.push(v)?),
-            Side::Upper => Ok(self.upper.push(v)?),
-        }
-    }
-
-    // Appends triangles of the region, which is closed.
-    pub(crate) fn close<T: Turns, L: Ledger>(
-        self,
-        alloc: Global,
-        board: &T,
-        rank: &[u32],
-        tris: &mut Vec<Tri>,
-        steps: &mut Steps<L>,
-    ) -> Result<(), Memory>
-        requires ranked { IsRanked (T.corners board.now) rank.now }
-        requires closed { IsClosedRegion (T.corners board.now) rank.now self }
-        ensures filled { OnOk result (IsFilled (T.corners board.now) (boundary self) tris.old.items tris.new.items) }
-        ensures steps { steps.new ≤ steps.old + 8 * entries self }
-    {
-        let piece = self.boundary()?;
-        fill(alloc, board, rank, &piece, tris, steps)
-    }
-
-    // The lower chain, and back along the upper one.
-    fn boundary(self) -> Result<Vec<u32>, Memory>
-        requires { 2 ≤ length self.upper }
-        ensures { IfOk result (λ piece. piece.items ≡ boundary self) }
-    {
-        let Region {
-            mut lower,
-            mut upper,
-        } = self;
-        upper.reverse();
-        lower.extend_from_slice(&upper[1..upper.len() - 1])?;
-        Ok(lower)
-    }
-
-    // The regions below and above a diagonal to the fork, from the later of the vertices where the edges below and above begin.
-    fn split(self, alloc: Global, rank: &[u32], fork: Fork) -> Result<(Region, Region), Memory>
-        requires lower { 2 ≤ length self.lower }
-        requires upper { 2 ≤ length self.upper }
-        requires lower_from { before_last self.lower < length rank.now }
-        requires upper_from { before_last self.upper < length rank.now }
-        ensures below { IfOk result (λ parts. parts.0 ≡ below_latest rank.now self fork.vertex fork.below) }
-        ensures above { IfOk result (λ parts. parts.1 ≡ above_latest rank.now self fork.vertex fork.above) }
-    {
-        let low_from = before_last(&self.lower);
-        let up_from = before_last(&self.upper);
-        if rank[up_from as usize] < rank[low_from as usize] {
-            self.split_from(alloc, Side::Lower, fork.vertex, fork.below, fork.above)
-        } else {
-            let (above, below) = self.split_from(
-                alloc,
-                Side::Upper,
-                fork.vertex,
-                fork.above,
-                fork.below,
-            )?;
-            Ok((below, above))
-        }
-    }
-
-    // The region beside the edge on this side, which goes over a diagonal from where that begins to v and on to a, and the rest,
-    // which goes on from v to b.
-    fn split_from(
-        self,
-        alloc: Global,
-        side: Side,
-        v: u32,
-        a: u32,
-        b: u32,
-    ) -> Result<(Region, Region), Memory>
-        requires { 2 ≤ length (seen_from side self).lower }
-        ensures beside { IfOk result (λ parts. parts.0 ≡ beside_front side self v a) }
-        ensures past { IfOk result (λ parts. parts.1 ≡ past_diagonal side self v b) }
-    {
-        let Region { lower, upper } = self.seen_from(side);
-        let (from, to) = front_of(&lower);
-        let beside = Region {
-            lower: two(alloc, from, to)?,
-            upper: three(alloc, from, v, a)?,
-        };
-        let past = Region {
-            lower: turned_to(lower, v, b)?,
-            upper,
-        };
-        Ok((beside.seen_from(side), past.seen_from(side)))
-    }
-
-    // The region with the chain on this side for its lower one.
-    fn seen_from(self, side: Side) -> Region
-        ensures { result ≡ seen_from side self }
-    {
-        match side {
-            Side::Lower => self,
-            Side::Upper => Region {
-                lower: self.upper,
-                upper: self.lower,
-            },
-        }
-    }
 }
 
 impl Gap {
@@ -220,18 +97,16 @@ impl Gap {
     // The region that stays open where the edge on this side ends at v. Of two regions the one there is closed.
     pub(crate) fn meet<T: Turns, L: Ledger>(
         self,
-        alloc: Global,
-        board: &T,
-        rank: &[u32],
+        ring: &RankedBoard<T>,
         side: Side,
         v: u32,
         tris: &mut Vec<Tri>,
         steps: &mut Steps<L>,
     ) -> Result<Region, Memory>
-        requires ranked { IsRanked (T.corners board.now) rank.now }
-        requires closed { All (IsClosedRegion (T.corners board.now) rank.now) (closed_at side self.low self.high v) }
+        requires ranked { IsRanked (T.corners ring.now.board.now) ring.now.rank.now }
+        requires closed { All (IsClosedRegion (T.corners ring.now.board.now) ring.now.rank.now) (closed_at side self.low self.high v) }
         ensures left { IfOk result (λ region. region ≡ left_at side self.low self.high v) }
-        ensures filled { OnOk result (AreFilled (T.corners board.now) (closed_at side self.low self.high v) tris.old.items tris.new.items) }
+        ensures filled { OnOk result (AreFilled (T.corners ring.now.board.now) (closed_at side self.low self.high v) tris.old.items tris.new.items) }
         ensures steps { steps.new ≤ steps.old + 8 * entries_of_all (closed_at side self.low self.high v) }
     {
         let Gap { low, high } = self;
@@ -240,7 +115,7 @@ impl Gap {
             Some(high) => {
                 let (mut closed, mut left) = ordered(side, low, high);
                 closed.extend(side.opposite(), v)?;
-                closed.close(alloc, board, rank, tris, steps)?;
+                closed.close(ring, tris, steps)?;
                 left.extend(side, v)?;
                 Ok(left)
             }
@@ -286,59 +161,4 @@ fn ordered(side: Side, low: Region, high: Region) -> (Region, Region)
         Side::Lower => (low, high),
         Side::Upper => (high, low),
     }
-}
-
-// The last vertex of a chain.
-fn last(path: &[u32]) -> u32
-    requires { 1 ≤ length path.now }
-    ensures { result ≡ last path.now }
-{
-    path[path.len() - 1]
-}
-
-// The one before it.
-fn before_last(path: &[u32]) -> u32
-    requires { 2 ≤ length path.now }
-    ensures { result ≡ before_last path.now }
-{
-    path[path.len() - 2]
-}
-
-// The last edge of a chain.
-fn front_of(path: &[u32]) -> (u32, u32)
-    requires { 2 ≤ length path.now }
-    ensures from { result.0 ≡ before_last path.now }
-    ensures to { result.1 ≡ last path.now }
-{
-    (before_last(path), last(path))
-}
-
-// A chain of two vertices, with room for two more.
-fn two(alloc: Global, a: u32, b: u32) -> Result<Vec<u32>, Memory>
-    ensures { IfOk result (λ path. path.items ≡ a ∷ b ∷ []) }
-{
-    let mut path = Vec::with_capacity(alloc, 4)?;
-    path.push(a)?;
-    path.push(b)?;
-    Ok(path)
-}
-
-// A chain of three.
-fn three(alloc: Global, a: u32, b: u32, c: u32) -> Result<Vec<u32>, Memory>
-    ensures { IfOk result (λ path. path.items ≡ a ∷ b ∷ c ∷ []) }
-{
-    let mut path = two(alloc, a, b)?;
-    path.push(c)?;
-    Ok(path)
-}
-
-// The chain with the vertex v in place of its last, and on to a.
-fn turned_to(mut path: Vec<u32>, v: u32, a: u32) -> Result<Vec<u32>, Memory>
-    requires { 1 ≤ length path.items }
-    ensures { IfOk result (λ turned. turned.items ≡ take (length path.items - 1) path.items ++ v ∷ a ∷ []) }
-{
-    path.truncate(path.len() - 1);
-    path.push(v)?;
-    path.push(a)?;
-    Ok(path)
 }

@@ -32,14 +32,14 @@ split-requires-clause-upper_from g c = low_upper_from c.requires.next (c.args.j 
 pub returns-then-is_under-clause-swept : goal.returns-then-is_under-clause-swept
 returns-then-is_under-clause-swept g c =
     on_ok_weaker c.split.result
-    (λ is. swept_same (g.T.Turns.corners c.args.board.now) c.args.rank.now (slice_index c.args.rank.now c.args.fork.vertex + 1) is c.split.ensures.triangles
+    (λ is. swept_same (g.T.Turns.corners c.args.ring.now.board.now) c.args.ring.now.rank.now (slice_index c.args.ring.now.rank.now c.args.fork.vertex + 1) is c.split.ensures.triangles
     (swept_of_split c.args.fork c.requires.next c.args.j c.requires.place c.requires.begins c.if-j-gt0.true (c.is_under.ensures.under.0 c.if-is_under.true)))
     c.split.ensures.gaps
 
 pub returns-else-j-gt0-clause-swept : goal.returns-else-j-gt0-clause-swept
 returns-else-j-gt0-clause-swept g c =
     on_ok_weaker c.start.result
-    (λ is. swept_same (g.T.Turns.corners c.args.board.now) c.args.rank.now (slice_index c.args.rank.now c.args.fork.vertex + 1) is c.start.ensures.triangles
+    (λ is. swept_same (g.T.Turns.corners c.args.ring.now.board.now) c.args.ring.now.rank.now (slice_index c.args.ring.now.rank.now c.args.fork.vertex + 1) is c.start.ensures.triangles
     (swept_of_start c.args.fork c.requires.next c.args.j c.requires.place c.requires.begins
     (λ some under. elim c.else-j-gt0.branch [
       | else-j-gt0-via-then-j-gt0+else-is_under w ↦ false≢true (sym w.if-is_under.false ∙ w.is_under.ensures.under.1 under)
@@ -52,7 +52,7 @@ returns-then-is_under-clause-work g c =
     let fork = c.args.fork in (
       omega (arith, c.is_under.ensures.steps),
       on_ok_weaker c.split.result
-          (splits_paid c.args.self.now.status (c.args.j - 1) c.args.steps.now (omega (arith, c.if-j-gt0.true, c.requires.place.inside)) c.args.rank.now
+          (splits_paid c.args.self.now.status (c.args.j - 1) c.args.steps.now (omega (arith, c.if-j-gt0.true, c.requires.place.inside)) c.args.ring.now.rank.now
           fork.vertex fork.below fork.above c.is_under.new.steps c.is_under.ensures.steps c.split.new.self.status)
           c.split.ensures.gaps,
     )

@@ -14,7 +14,7 @@ pub meet-requires-clause-closed : goal.meet-requires-clause-closed
 meet-requires-clause-closed g c =
     let gap = gap_at c.args.self.now.status c.args.j in
     rw c.in_ok-gap.ensures.gap
-    (all_but_last (IsClosedRegion (g.T.Turns.corners c.args.board.now) c.args.rank.now) (closed_at Upper gap.low gap.high c.args.v)
+    (all_but_last (IsClosedRegion (g.T.Turns.corners c.args.ring.now.board.now) c.args.ring.now.rank.now) (closed_at Upper gap.low gap.high c.args.v)
     (left_at Upper gap.low gap.high c.args.v) c.requires.closed)
 
 pub returns-in_err-region-clause-work : goal.returns-in_err-region-clause-work
@@ -26,12 +26,12 @@ pub close-requires-clause-closed : goal.close-requires-clause-closed
 close-requires-clause-closed g c =
     let gap = gap_at c.args.self.now.status c.args.j in
     rw (c.in_ok-region.ensures.left, c.in_ok-gap.ensures.gap)
-    (of_last (IsClosedRegion (g.T.Turns.corners c.args.board.now) c.args.rank.now) (closed_at Upper gap.low gap.high c.args.v)
+    (of_last (IsClosedRegion (g.T.Turns.corners c.args.ring.now.board.now) c.args.ring.now.rank.now) (closed_at Upper gap.low gap.high c.args.v)
     (left_at Upper gap.low gap.high c.args.v) c.requires.closed)
 
 pub returns-clause-filled : goal.returns-clause-filled
 returns-clause-filled g c =
-    let corners = g.T.Turns.corners c.args.board.now in
+    let corners = g.T.Turns.corners c.args.ring.now.board.now in
     let gap = gap_at c.args.self.now.status c.args.j in
     let closed = closed_at Upper gap.low gap.high c.args.v in
     let region = left_at Upper gap.low gap.high c.args.v in

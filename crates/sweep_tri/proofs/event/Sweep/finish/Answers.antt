@@ -43,13 +43,13 @@ merge-requires-clause-closed_above g c =
 pub returns-then-up_front-v-clause-swept : goal.returns-then-up_front-v-clause-swept
 returns-then-up_front-v-clause-swept g c =
     on_ok_both c.end.result c.end.ensures.gaps c.end.ensures.filled
-    (λ is filled. swept_same (g.T.Turns.corners c.args.board.now) c.args.rank.now (slice_index c.args.rank.now c.args.v + 1) is refl
+    (λ is filled. swept_same (g.T.Turns.corners c.args.ring.now.board.now) c.args.ring.now.rank.now (slice_index c.args.ring.now.rank.now c.args.v + 1) is refl
     (swept_of_end c.requires.next c.args.j c.requires.place c.requires.finishes
     (ap (λ (gap : Gap). (up_front gap).to) (sym c.get.ensures.gap) ∙ sym c.up_front.ensures.to ∙ c.if-up_front-v.true) c.end.new.self.tris.items filled))
 
 pub returns-else-up_front-v-clause-swept : goal.returns-else-up_front-v-clause-swept
 returns-else-up_front-v-clause-swept g c =
     on_ok_both c.merge.result c.merge.ensures.gaps c.merge.ensures.filled
-    (λ is filled. swept_same (g.T.Turns.corners c.args.board.now) c.args.rank.now (slice_index c.args.rank.now c.args.v + 1) is refl
+    (λ is filled. swept_same (g.T.Turns.corners c.args.ring.now.board.now) c.args.ring.now.rank.now (slice_index c.args.ring.now.rank.now c.args.v + 1) is refl
     (swept_of_merge c.requires.next c.args.j c.requires.place c.requires.finishes
     (λ to. c.if-up_front-v.false (c.up_front.ensures.to ∙ ap (λ (gap : Gap). (up_front gap).to) c.get.ensures.gap ∙ to)) c.merge.new.self.tris.items filled))

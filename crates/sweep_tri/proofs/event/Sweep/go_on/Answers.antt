@@ -37,14 +37,14 @@ pub returns-then-low_ends-clause-swept : goal.returns-then-low_ends-clause-swept
 returns-then-low_ends-clause-swept g c =
     let ends = c.low_ends.ensures.ends.0 c.if-low_ends.true in
     on_ok_both c.go_on_at.result c.go_on_at.ensures.gaps c.go_on_at.ensures.filled
-    (λ is filled. swept_same (g.T.Turns.corners c.args.board.now) c.args.rank.now (slice_index c.args.rank.now c.args.v + 1) is refl
+    (λ is filled. swept_same (g.T.Turns.corners c.args.ring.now.board.now) c.args.ring.now.rank.now (slice_index c.args.ring.now.rank.now c.args.v + 1) is refl
     (swept_of_next c.requires.next c.args.j c.requires.place c.args.w c.requires.goes_on Lower c.args.j
     (next_low c.requires.next c.args.j c.requires.place c.args.w c.requires.goes_on ends.0 ends.1) c.go_on_at.new.self.tris.items filled))
 
 pub returns-else-low_ends-clause-swept : goal.returns-else-low_ends-clause-swept
 returns-else-low_ends-clause-swept g c =
     on_ok_both c.go_on_at-else-low_ends.result c.go_on_at-else-low_ends.ensures.gaps c.go_on_at-else-low_ends.ensures.filled
-    (λ is filled. swept_same (g.T.Turns.corners c.args.board.now) c.args.rank.now (slice_index c.args.rank.now c.args.v + 1) is refl
+    (λ is filled. swept_same (g.T.Turns.corners c.args.ring.now.board.now) c.args.ring.now.rank.now (slice_index c.args.ring.now.rank.now c.args.v + 1) is refl
     (swept_of_next c.requires.next c.args.j c.requires.place c.args.w c.requires.goes_on Upper (c.args.j - 1)
     (next_up c.requires.next c.args.j c.requires.place c.args.w c.requires.goes_on
     (λ ends. false≢true (sym c.if-low_ends.false ∙ c.low_ends.ensures.ends.1 ends))).1 c.go_on_at-else-low_ends.new.self.tris.items filled))

@@ -60,7 +60,7 @@ returns-clause-filled g c =
     let h = gap_at gaps c.args.j in
     let f_is = c.replace-below.ensures.gap ∙ ap (λ gs. gap_at gs i) c.in_ok-above.ensures.gaps
     ∙ still_there gaps i c.args.j (omega (arith, c.requires.first)) c.requires.place in
-    filled-append (g.T.Turns.corners c.args.board.now) (closed_at Lower h.low h.high c.args.v) (closed_at Upper f.low f.high c.args.v)
+    filled-append (g.T.Turns.corners c.args.ring.now.board.now) (closed_at Lower h.low h.high c.args.v) (closed_at Upper f.low f.high c.args.v)
     c.args.self.now.tris.items c.meet.new.tris.items c.meet-2.new.tris.items (rw c.in_ok-above.ensures.gap at c.in_ok-high.ensures.filled)
     (rw f_is at c.in_ok-low.ensures.filled)
 

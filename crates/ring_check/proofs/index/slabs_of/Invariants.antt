@@ -1,8 +1,0 @@
-use Rattle.std.proofs.Common.{◌≡◌, ◌+◌, ◌*◌, ◌≤◌, length}
-use Rattle.ring_check.proofs.index.slabs_of.Given as goal
-
-abbrev pub invariant-loop-e : goal.invariant-loop-e
-invariant-loop-e g l = record {
-  count : length l.slabs.items ≡ 17;
-  steps : l.steps ≤ l.fn.steps + 128 * l.e;
-}
