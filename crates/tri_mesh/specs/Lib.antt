@@ -3,3 +3,4 @@ pub mod Hierarchy
 pub mod Neighbours
 pub mod Outward
 pub mod Search
+pub mod Triangle

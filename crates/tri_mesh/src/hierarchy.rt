@@ -4,6 +4,7 @@ ghost use Rattle.std.specs.Prelude.{◌≡◌, ◌+◌, ◌-◌, ◌*◌, ◌<�
 ghost use Rattle.tri_mesh.specs.Hierarchy.{IsNamedBelow};
 
 use crate::extremes::Extremes;
+use crate::triangle::has_corner;
 use exact_plane::{Memory, Pt, Steps};
 use meshes::Tri;
 use std::alloc::Global;
@@ -165,11 +166,6 @@ fn with_corner<L: Ledger>(
     ensures { steps.new ≤ steps.old + 4 }
 {
     around.joined(&Extremes::of(v), corners, steps)
-}
-
-// Returns whether a triangle has a corner.
-fn has_corner(tri: &Tri, v: u32) -> bool {
-    tri.a == v || tri.b == v || tri.c == v
 }
 
 // Returns the nodes if their boxes are named by some of the first `n` vertices, and else none.
