@@ -2,8 +2,6 @@
 #![tactic(auto)]
 
 mod corner;
-mod extremes;
-mod hierarchy;
 mod mesh;
 mod outward;
 mod search;
@@ -12,7 +10,6 @@ mod sleeve;
 mod triangle;
 
 pub use corner::triangle_at;
-pub use hierarchy::{Node, hierarchy_of};
 pub use mesh::Mesh;
 pub use outward::{Outward, Rooted};
 pub use sleeve::Sleeve;

@@ -1,6 +1,6 @@
 // The vertices of a set that lie farthest in four directions.
 ghost use Rattle.std.specs.Prelude.{◌≡◌, ◌+◌, ◌≤◌, IsTrue, length};
-ghost use Rattle.tri_mesh.specs.Hierarchy.{AreExtremesBelow};
+ghost use Rattle.triangle_boxes.specs.Hierarchy.{AreExtremesBelow};
 
 use exact_plane::{Pt, Steps, is_within, order, order_upward};
 use std::cmp::Ordering;

@@ -1,5 +1,5 @@
 use Rattle.std.proofs.Common.{arith}
-use Rattle.dual_tree.proofs.search.Search.held.Goals as goal
+use Rattle.dual_tree.proofs.search.held.Goals as goal
 
 pub returns-clause-left : goal.returns-clause-left
 returns-clause-left g c =
