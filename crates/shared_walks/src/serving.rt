@@ -17,10 +17,9 @@ use crate::paths::{Stops, is_missing, put};
 use dual_tree::Board;
 use exact_plane::{Memory, Pt, Spot, Steps, Turns};
 use funnel_walk::{FunnelBox, walk};
-use meshes::Tri;
 use std::alloc::Global;
 use std::sync::ledger::Ledger;
-use tri_mesh::Sleeve;
+use tri_mesh::{Sleeve, has_side};
 
 impl<'a> Stops<'a> {
     // The path to a point in the triangle that the walks begin in.
@@ -87,7 +86,11 @@ impl<'a> Stops<'a> {
             × HasSide (tri_at self.now.mesh.now (slice_index self.now.tris.now j)) here.left here.right) }
     {
         is_missing(found, j)
-            && has_side(self.mesh.tri(self.tris[j]), sleeve.left(i), sleeve.right(i))
+            && has_side(
+                &self.mesh.tri(self.tris[j]),
+                sleeve.left(i),
+                sleeve.right(i),
+            )
     }
 
     // The path to a point in the triangle behind the diagonal that a walk has come to.
@@ -134,15 +137,6 @@ fn names_behind<T: Turns, L: Ledger>(
         front.funnel.reach_goal(board, &mut out, steps);
     }
     Ok(out)
-}
-
-// Whether the triangle has the side from one corner to another.
-fn has_side(tri: Tri, from: u32, to: u32) -> bool
-    ensures { IsTrue result ↔ HasSide tri from to }
-{
-    (tri.a == from && tri.b == to)
-        || (tri.b == from && tri.c == to)
-        || (tri.c == from && tri.a == to)
 }
 
 // A copy of the names, with room for so many more.
