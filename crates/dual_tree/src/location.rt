@@ -10,13 +10,14 @@ ghost use Rattle.meshes.specs.Mesh.{side_begin, side_end};
 ghost use Rattle.meshes.specs.Side.{tri_at, HasCorner};
 ghost use Rattle.dual_tree.specs.Location.{IsCornered, IsLeastHolding};
 
-use crate::search::Search;
+use crate::search::go_on;
 use exact_plane::{Direction, Pt, Steps, is_apart, is_right_of_none, order, turn};
 use meshes::Tri;
 use ring_check::Ring;
 use std::cmp::Ordering;
 use std::sync::ledger::Ledger;
 use tri_mesh::{Mesh, triangle_at};
+use triangle_boxes::Cursor;
 
 /// Returns the least triangle that holds `p`, its sides included, or none where `p` is not in the ring. It takes O(n) steps, at most 3
 /// for each of the n - 2 triangles.
@@ -27,14 +28,14 @@ pub fn locate<L: Ledger>(mesh: &Mesh, ring: &Ring, p: &Pt, steps: &mut Steps<L>)
     ensures none { IsNone result ↔ ¬ (IsIn ring.now.corners (whole p.now)) }
     ensures steps { steps.new ≤ steps.old + 3 * (length ring.now.corners - 2) }
 {
-    let mut search = Search::new();
+    let mut cursor = Cursor::new();
     for i in 0..mesh.count() {
         let (is_held, spared) = holds(ring, &mesh.tri(i), p, steps);
         if is_held {
             return Some(i);
         }
-        search.spared += spared;
-        if let Some(k) = search.go_on(mesh, ring, p, steps) {
+        cursor.spared += spared;
+        if let Some(k) = go_on(&mut cursor, mesh, ring, p, steps) {
             return Some(least_beside(mesh, ring, k, p, steps));
         }
     }

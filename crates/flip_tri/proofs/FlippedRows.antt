@@ -12,7 +12,8 @@ use Rattle.flip_tri.proofs.FlippedNeighbours.{beside_other, beside_right_to, bes
 use Rattle.flip_tri.proofs.HandedOver.{side_numbered}
 use Rattle.flip_tri.proofs.TwoReplaced.{replaced_first, replaced_length, replaced_others, replaced_second}
 use Rattle.flip_tri.specs.Flips.{KnowsNeighbours}
-use Rattle.flip_tri.specs.Shared.{AreTriangleRows, IsAcrossFrom, IsKnown, IsSideNumber, entry, flipped}
+use Rattle.flip_tri.specs.Shared.{AreTriangleRows, IsAcrossFrom, IsKnown, entry, flipped}
+use Rattle.tri_mesh.specs.Triangle.{IsSideNumber}
 use Rattle.flip_tri.specs.declared.quad.Quad.{Quad}
 
 -- a side of a triangle has these ends or not

@@ -7,7 +7,8 @@ use Rattle.meshes.specs.Mesh.{side_begin, side_end}
 use Rattle.meshes.specs.Side.{HasSide, HasSidesOnce, tri_at}
 use Rattle.meshes.specs.declared.tri.Tri.{Tri}
 use Rattle.tri_mesh.proofs.Neighbours.{has_side_numbered}
-use Rattle.flip_tri.specs.Shared.{AreTriangleRows, IsKnown, IsSideNumber, entry}
+use Rattle.flip_tri.specs.Shared.{AreTriangleRows, IsKnown, entry}
+use Rattle.tri_mesh.specs.Triangle.{IsSideNumber}
 
 -- a side by its number is a side
 pub side_numbered : (t : Tri) (i j side : ℕ) → IsSideNumber t i j side → HasSide t i j

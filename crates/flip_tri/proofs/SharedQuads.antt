@@ -8,12 +8,13 @@ use Rattle.meshes.specs.declared.tri.Tri.{Tri}
 use Rattle.cut_tri.specs.Triangles.{HasRound}
 use Rattle.flip_tri.proofs.FlippedNeighbours.{HasBeside, IsFlip}
 use Rattle.flip_tri.specs.Flips.{IsQuadOf, KnowsNeighbours}
-use Rattle.flip_tri.specs.Shared.{IsAcrossFrom, IsShared, corner_across, entry, flipped, next_side, quad_of}
+use Rattle.flip_tri.specs.Shared.{IsAcrossFrom, IsShared, entry, flipped, next_side, quad_of}
+use Rattle.tri_mesh.specs.Triangle.{side_opposite}
 use Rattle.flip_tri.specs.declared.flips.Shared.{Shared}
 use Rattle.flip_tri.specs.declared.quad.Quad.{Quad}
 
 -- from a side round a triangle
-pub round_from : (t : Tri) (side : ℕ) → side < 3 → HasRound t (side_begin t side) (side_end t side) (corner_across t side)
+pub round_from : (t : Tri) (side : ℕ) → side < 3 → HasRound t (side_begin t side) (side_end t side) (side_opposite t side)
 round_from t zero h = record { first = inl (refl, refl); second = inr (inl (refl, refl)); third = inr (inr (refl, refl)) }
 round_from t (suc zero) h = record { first = inr (inl (refl, refl)); second = inr (inr (refl, refl)); third = inl (refl, refl) }
 round_from t (suc (suc zero)) h = record { first = inr (inr (refl, refl)); second = inl (refl, refl); third = inr (inl (refl, refl)) }
@@ -24,8 +25,8 @@ record AreOthers (t : Tri) (side : ℕ) : Type 0 where
   pub next : next_side side < 3
   pub last : next_side (next_side side) < 3
   pub next_begins : side_begin t (next_side side) ≡ side_end t side
-  pub next_ends : side_end t (next_side side) ≡ corner_across t side
-  pub last_begins : side_begin t (next_side (next_side side)) ≡ corner_across t side
+  pub next_ends : side_end t (next_side side) ≡ side_opposite t side
+  pub last_begins : side_begin t (next_side (next_side side)) ≡ side_opposite t side
   pub last_ends : side_end t (next_side (next_side side)) ≡ side_begin t side
 
 others : (t : Tri) (side : ℕ) → side < 3 → AreOthers t side

@@ -5,23 +5,14 @@ use Rattle.plane.specs.Point.{Point}
 use Rattle.meshes.specs.Mesh.{side_begin, side_end}
 use Rattle.meshes.specs.Side.{HasSide, tri_at}
 use Rattle.meshes.specs.declared.tri.Tri.{Tri}
+use Rattle.tri_mesh.specs.Triangle.{IsSideNumber, side_opposite}
 use Rattle.flip_tri.specs.Flips.{IsQuadOf, IsQuadToFlip}
 use Rattle.flip_tri.specs.declared.flips.Shared.{Shared}
 use Rattle.flip_tri.specs.declared.quad.Quad.{Quad}
 
--- the corner across from a side
-abbrev pub corner_across : Tri → ℕ → ℕ
-corner_across t side = slice_index_or (t.c ∷ t.a ∷ t.b ∷ []) side 0
-
 -- the side after a side
 abbrev pub next_side : ℕ → ℕ
 next_side side = slice_index_or (1 ∷ 2 ∷ 0 ∷ []) side 0
-
--- the side is number `side` of the triangle
-pub record IsSideNumber (t : Tri) (i j side : ℕ) : Type 0 where
-  pub below : side < 3
-  pub begins : side_begin t side ≡ i
-  pub ends : side_end t side ≡ j
 
 -- a side is that of two triangles, in opposite directions
 pub record IsShared (tris : List Tri) (shared : Shared) : Type 0 where
@@ -37,8 +28,8 @@ abbrev pub quad_of : List Tri → Shared → Quad
 quad_of tris shared = record {
   from = side_begin (tri_at tris shared.near) shared.near_side;
   to = side_end (tri_at tris shared.near) shared.near_side;
-  left = corner_across (tri_at tris shared.near) shared.near_side;
-  right = corner_across (tri_at tris shared.far) shared.far_side;
+  left = side_opposite (tri_at tris shared.near) shared.near_side;
+  right = side_opposite (tri_at tris shared.far) shared.far_side;
 }
 
 -- the triangles with two of them replaced by those beside the other diagonal

@@ -2,8 +2,9 @@
 ghost use Rattle.std.specs.Prelude.{◌≡◌, ◌+◌, ◌<◌, ◌≤◌, ℕ, IfNone, IfOk, IfSome, None, Some, length, slice_index_or};
 ghost use Rattle.meshes.specs.Mesh.{side_begin, side_end};
 ghost use Rattle.meshes.specs.Side.{HasSide, HasSidesOnce, tri_at};
+ghost use Rattle.tri_mesh.specs.Triangle.{IsSideNumber};
 ghost use Rattle.flip_tri.specs.Flips.{AreFlips, IsFlipped, HasNoFlipAt, KnowsNeighbours};
-ghost use Rattle.flip_tri.specs.Shared.{AreTriangleRows, IsKnown, IsRowOf, IsShared, IsSideNumber, corner_across, flipped, next_side, quad_of};
+ghost use Rattle.flip_tri.specs.Shared.{AreTriangleRows, IsKnown, IsRowOf, IsShared, flipped, next_side, quad_of};
 
 use crate::quad::Quad;
 use exact_plane::{Memory, Steps};
@@ -11,7 +12,7 @@ use meshes::Tri;
 use ring_check::Ring;
 use std::alloc::Global;
 use std::sync::ledger::Ledger;
-use tri_mesh::Mesh;
+use tri_mesh::{Mesh, corner_opposite, side_ends, side_number};
 
 // Triangles that fit a polygon, and for each of their sides the triangle on its other side. Side 0 goes from corner a to b, side 1
 // from b to c, side 2 from c to a.
@@ -87,8 +88,8 @@ impl Flips {
         ensures near { IfSome result (λ shared. (shared.near ≡ near) × (shared.near_side ≡ near_side)) }
     {
         let far = self.neighbours[near as usize][near_side as usize]?;
-        let (from, to) = ends(&self.tris[near as usize], near_side);
-        let far_side = number_of(&self.tris[far as usize], to, from)?;
+        let (from, to) = side_ends(&self.tris[near as usize], near_side);
+        let far_side = side_number(&self.tris[far as usize], to, from)?;
         Some(Shared {
             near,
             near_side,
@@ -104,12 +105,12 @@ impl Flips {
     {
         let near = &self.tris[shared.near as usize];
         let far = &self.tris[shared.far as usize];
-        let (from, to) = ends(near, shared.near_side);
+        let (from, to) = side_ends(near, shared.near_side);
         Quad {
             from,
             to,
-            left: across(near, shared.near_side),
-            right: across(far, shared.far_side),
+            left: corner_opposite(near, shared.near_side),
+            right: corner_opposite(far, shared.far_side),
         }
     }
 
@@ -150,7 +151,7 @@ impl Flips {
             → IsKnown self.new.tris.items self.new.neighbours.items k side }
     {
         if let Some(tri) = beside
-            && let Some(side) = number_of(&self.tris[tri as usize], from, to)
+            && let Some(side) = side_number(&self.tris[tri as usize], from, to)
         {
             self.neighbours[tri as usize][side as usize] = Some(other);
         }
@@ -165,46 +166,6 @@ fn row_of(mesh: &Mesh, k: u32) -> [Option<u32>; 3]
     // What holds of every mesh is told with its count: no triangle has a side in both directions.
     let _count = mesh.count();
     [mesh.across(k, 0), mesh.across(k, 1), mesh.across(k, 2)]
-}
-
-// The corners where a side of a triangle begins and ends.
-fn ends(tri: &Tri, side: u32) -> (u32, u32)
-    requires { side < 3 }
-    ensures { result ≡ (side_begin tri.now side, side_end tri.now side) }
-{
-    match side {
-        0 => (tri.a, tri.b),
-        1 => (tri.b, tri.c),
-        _ => (tri.c, tri.a),
-    }
-}
-
-// The corner across from a side.
-fn across(tri: &Tri, side: u32) -> u32
-    requires { side < 3 }
-    ensures { result ≡ corner_across tri.now side }
-{
-    match side {
-        0 => tri.c,
-        1 => tri.a,
-        _ => tri.b,
-    }
-}
-
-// The number of the side between these corners, if there is one.
-fn number_of(tri: &Tri, from: u32, to: u32) -> Option<u32>
-    ensures none { IfNone result (¬ HasSide tri.now from to) }
-    ensures some { IfSome result (IsSideNumber tri.now from to) }
-{
-    if tri.a == from && tri.b == to {
-        Some(0)
-    } else if tri.b == from && tri.c == to {
-        Some(1)
-    } else if tri.c == from && tri.a == to {
-        Some(2)
-    } else {
-        None
-    }
 }
 
 // A row from one of its places on.

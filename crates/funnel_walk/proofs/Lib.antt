@@ -1,15 +1,11 @@
-mod AllNumbers
 mod Appended
 mod Closed
 mod CrossedSides
-mod EachGoal
+pub mod EachGoal
 mod FirstNamed
-mod FoundPaths
-mod ShortPaths
-mod ShortWalks
-mod KeptFronts
+pub mod ShortWalks
 mod KeptNames
-mod PathNames
+pub mod PathNames
 mod NarrowedLeft
 mod NarrowedRight
 mod Opened

@@ -1,4 +1,2 @@
-pub mod Fronts
 pub mod Names
-pub mod Several
 pub mod Walked

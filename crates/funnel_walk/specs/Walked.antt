@@ -1,6 +1,6 @@
 -- How far a walk has come: the names that were given, and those of the funnel. No public clause cites this module.
 use Rattle.std.specs.List.{All}
-use Rattle.std.specs.Prelude.{◌≡◌, ◌≢◌, ℕ, ◌+◌, ◌<◌, List, [], ◌∷◌, ◌++◌, length, slice_index_or}
+use Rattle.std.specs.Prelude.{◌≡◌, ◌≢◌, ℕ, ◌+◌, ◌<◌, List, [], ◌∷◌, ◌++◌, drop, length, slice_index_or}
 use Rattle.plane.specs.Point.{Point, whole}
 use Rattle.rings.specs.Chain.{IsTaut}
 use Rattle.meshes.specs.Fits.{Fits, IsInTri}
@@ -12,6 +12,7 @@ use Rattle.exact_plane.specs.declared.turns.Spot.{Spot}
 use Rattle.exact_plane.specs.declared.turns.Spot.TheVariants.{Goal, Start}
 use Rattle.exact_plane.specs.Names.{AppendsNames, AreNamed, name_at, named_points}
 use Rattle.exact_plane.specs.Spot.{point_named}
+use Rattle.funnel_walk.specs.declared.funnel.Funnel.{Funnel}
 
 -- none of the names is the goal's
 abbrev pub HaveNoGoal : List Spot → Type 0
@@ -27,6 +28,17 @@ pub record IsWalked (corners : List Point) (start goal : Point) (given names : L
   pub given_no_goal : HaveNoGoal given
   pub no_goal : HaveNoGoal names
   pub starts : name_at (given ++ name_at names a ∷ []) 0 ≡ Start
+
+-- the walk has come to the funnel, and the names from the first one that was given for it on are those before the apex
+abbrev pub HasCome : List Point → Point → Point → Sleeve → List Spot → Funnel → Type 0
+HasCome corners start goal sleeve out funnel = IsWalked corners start goal (drop funnel.given out) funnel.names.items funnel.apex
+    (diagonal_at sleeve funnel.at).left (diagonal_at sleeve funnel.at).right
+
+-- triangles that fit the corners have the sleeve
+pub record IsSleeveIn (corners : List Point) (sleeve : Sleeve) : Type 0 where
+  pub tris : List Tri
+  pub fits : Fits corners tris
+  pub of_mesh : IsOneOf tris sleeve
 
 -- so far a walk has come behind a diagonal of a sleeve, and the triangle there has the goal
 pub record HasArrived (corners : List Point) (start goal : Point) (given names : List Spot) (a : ℕ) : Type 0 where

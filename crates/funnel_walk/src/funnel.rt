@@ -1,5 +1,5 @@
-// The names of a funnel, from the left end to the right one.
-ghost use Rattle.std.specs.Prelude.{◌≡◌, ◌≢◌, ◌+◌, ◌-◌, ◌<◌, ◌≤◌, ◌++◌, ◌↔◌, IsTrue, drop, length, min, take, vec_capacity};
+// The funnel, and how its names are taken away on the right and on the left.
+ghost use Rattle.std.specs.Prelude.{◌≡◌, ◌≢◌, ◌+◌, ◌-◌, ◌<◌, ◌≤◌, ◌++◌, ◌↔◌, ◌^◌, IfOk, IsTrue, drop, length, min, take, vec_capacity};
 ghost use Rattle.plane.specs.Point.{whole};
 ghost use Rattle.funnels.specs.Funnel.{IsPassed, IsReachedFrom};
 ghost use Rattle.exact_plane.specs.Names.{AreNamed, name_at, named_points};
@@ -7,8 +7,56 @@ ghost use Rattle.exact_plane.specs.Spot.{IsNamed, point_named};
 ghost use Rattle.funnel_walk.specs.Names.{left_names, right_names};
 
 use circular_buffer::HeapCircularBuffer;
-use exact_plane::{Direction, Spot, Steps, Turns};
+use exact_plane::{Direction, Memory, Spot, Steps, Turns};
+use std::alloc::Global;
 use std::sync::ledger::Ledger;
+
+/// The funnel at a diagonal of a sleeve: the names of two convex chains from an apex to the ends of the diagonal, from the left end to the
+/// right one; the place of the apex among them; the number of the diagonal; and how many names the output had when the walk began.
+#[derive(Drop)]
+pub struct Funnel {
+    pub names: HeapCircularBuffer<Spot>,
+    pub apex: usize,
+    pub at: usize,
+    pub given: usize,
+}
+
+impl Funnel {
+    /// Returns an empty funnel with room for `n` names, or `Memory`.
+    pub fn with_room(alloc: Global, n: usize) -> Result<Funnel, Memory>
+        requires { n < 2 ^ 32 }
+        ensures { IfOk result (λ funnel. funnel.names.capacity ≡ n) }
+    {
+        Ok(Funnel {
+            names: HeapCircularBuffer::with_capacity(alloc, n)?,
+            apex: 0,
+            at: 0,
+            given: 0,
+        })
+    }
+
+    /// Returns a copy with room for `n` names, or `Memory`. O(n) time.
+    pub fn copied(&self, alloc: Global, n: usize) -> Result<Funnel, Memory>
+        requires few { length self.now.names.items ≤ n }
+        requires fits { n < 2 ^ 31 }
+        ensures items { IfOk result (λ copy. copy.names.items ≡ self.now.names.items) }
+        ensures apex { IfOk result (λ copy. copy.apex ≡ self.now.apex) }
+        ensures at { IfOk result (λ copy. copy.at ≡ self.now.at) }
+        ensures given { IfOk result (λ copy. copy.given ≡ self.now.given) }
+        ensures room { IfOk result (λ copy. copy.names.capacity ≡ n) }
+    {
+        let mut names = HeapCircularBuffer::with_capacity(alloc, n)?;
+        for i in 0..self.names.len() {
+            names.push_back(name_at(&self.names, i));
+        }
+        Ok(Funnel {
+            names,
+            apex: self.apex,
+            at: self.at,
+            given: self.given,
+        })
+    }
+}
 
 // The name at a place.
 pub(crate) fn name_at(names: &HeapCircularBuffer<Spot>, i: usize) -> Spot

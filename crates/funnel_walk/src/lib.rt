@@ -2,13 +2,9 @@
 #![tactic(auto)]
 
 mod chain;
-mod front;
 mod funnel;
-mod marks;
-mod outward;
 mod room;
-mod several;
 
 pub use chain::walk;
+pub use funnel::Funnel;
 pub use room::FunnelBox;
-pub use several::paths_from;

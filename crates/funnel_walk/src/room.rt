@@ -1,15 +1,15 @@
+// Room for the funnel of a walk.
 ghost use Rattle.std.specs.Prelude.{◌≡◌, ◌<◌, ◌^◌, IfOk};
 
-use circular_buffer::HeapCircularBuffer;
-use exact_plane::{Memory, Spot};
+use crate::funnel::Funnel;
+use exact_plane::Memory;
 use std::alloc::Global;
 use std::marker::Model;
 
 /// Room for the funnel of a sleeve.
 #[derive(Drop)]
 pub struct FunnelBox {
-    // The names of two convex chains from an apex to the ends of a diagonal, from the left end to the right one.
-    pub(crate) names: HeapCircularBuffer<Spot>,
+    pub(crate) funnel: Funnel,
 }
 
 impl Model for FunnelBox {
@@ -18,9 +18,9 @@ impl Model for FunnelBox {
     // The number of diagonals that it has room for.
     ghost Value = { ℕ };
 
-    ghost view = { λ room. room.names.capacity - 4 };
+    ghost view = { λ room. room.funnel.names.capacity - 4 };
 
-    ghost invariant = { λ room. 4 ≤ room.names.capacity };
+    ghost invariant = { λ room. 4 ≤ room.funnel.names.capacity };
 }
 
 impl FunnelBox {
@@ -29,7 +29,8 @@ impl FunnelBox {
         requires { d < 2 ^ 31 }
         ensures { IfOk result (λ room. room ≡ d) }
     {
-        let names = HeapCircularBuffer::with_capacity(alloc, d + 4)?;
-        Ok(FunnelBox { names })
+        Ok(FunnelBox {
+            funnel: Funnel::with_room(alloc, d + 4)?,
+        })
     }
 }

@@ -10,7 +10,7 @@ use Rattle.rings.specs.Ring.{origin}
 use Rattle.rings.specs.Simple.{IsSimple}
 use Rattle.meshes.specs.declared.tri.Tri.{Tri}
 use Rattle.dual_tree.specs.Location.{IsLeastHolding}
-use Rattle.funnel_walk.specs.Several as several
+use Rattle.shared_walks.specs.Several as several
 use Rattle.geo_session.proofs.HullTable.{number_in_list}
 use Rattle.geo_session.proofs.Spanned.{chain_turned, column_of, each_push, place_below, row_of}
 use Rattle.geo_session.specs.Hull.{AreFirsts}

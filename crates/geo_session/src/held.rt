@@ -27,7 +27,8 @@ use std::alloc::Global;
 use std::marker::Model;
 use std::sync::ledger::Ledger;
 use sweep_tri::sweep_ring;
-use tri_mesh::{Mesh, hierarchy_of};
+use tri_mesh::Mesh;
+use triangle_boxes::Hierarchy;
 
 // A triangulated polygon: a ring, with a mesh that fits it, the tree of a source in it, if there is one, and the table of the
 // paths between all pairs of vertices, if there is one. What it answers is about the list that the ring was made of.
@@ -169,6 +170,6 @@ pub(crate) fn mesh_of<L: Ledger>(
 {
     let _ring_is_simple = ring.len();
     let tris = sweep_ring(alloc, ring, &Board::without_ends(ring), steps)?;
-    let nodes = hierarchy_of(alloc, ring.corners(), &tris, steps)?;
-    Mesh::with_hierarchy(alloc, tris, nodes)
+    let hierarchy = Hierarchy::of(alloc, ring.corners(), &tris, steps)?;
+    Mesh::with_hierarchy(alloc, tris, hierarchy)
 }

@@ -13,10 +13,10 @@ ghost use Rattle.geo_session.specs.Told.{RepliesWithin, Tells};
 
 use crate::held::Held;
 use exact_plane::{Memory, Pt, Steps, order};
-use funnel_walk::paths_from;
 use geo_reply::{Reply, Row, Side};
 use geo_text::{Bad, Version};
 use rel_hull::{ChainTable, round, sides};
+use shared_walks::{Stops, paths_from};
 use std::alloc::Global;
 use std::cmp::Ordering;
 use std::sync::ledger::Ledger;
@@ -142,16 +142,15 @@ impl Held {
         let mut chains = Vec::with_capacity(alloc, m * m)?;
         for r in 0..m {
             put_back(alloc, m, r, &mut chains)?;
-            let mut paths = paths_from(
-                alloc,
-                &self.ring,
-                &self.mesh,
-                homes[r],
-                &ends[r],
-                &homes[r..],
-                &ends[r..],
-                steps,
-            )?;
+            let stops = Stops {
+                ring: &self.ring,
+                mesh: &self.mesh,
+                home: homes[r],
+                start: &ends[r],
+                tris: &homes[r..],
+                points: &ends[r..],
+            };
+            let mut paths = paths_from(alloc, &stops, steps)?;
             chains.append(&mut paths)?;
         }
         Ok(ChainTable::of(&self.ring, m as u32, chains))

@@ -2,10 +2,10 @@ ghost use Rattle.std.specs.Prelude.{◌+◌, ◌<◌, IfOk, OnOk, length};
 ghost use Rattle.meshes.specs.Mesh.{IsMesh};
 ghost use Rattle.see_cone.specs.Reached.{AreDifferent, AreBoundaryEdges, AreSorted};
 
-use crate::reached::{Reached, side_ends};
+use crate::reached::Reached;
 use exact_plane::Memory;
 use std::alloc::Global;
-use tri_mesh::Mesh;
+use tri_mesh::{Mesh, side_ends};
 
 // An edge of the ring by its number, and the place of the triangle that has it as a side.
 #[derive(Clone, Copy, PartialEq, Eq, PartialOrd, Ord)]

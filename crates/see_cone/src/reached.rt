@@ -1,7 +1,6 @@
 ghost use Rattle.std.specs.Prelude.{◌≡◌, ◌+◌, ◌*◌, ◌<◌, ◌≤◌, IfOk, OnOk, length};
 ghost use Rattle.plane.specs.Point.{whole};
 ghost use Rattle.meshes.specs.Fits.{Fits, IsInTri};
-ghost use Rattle.meshes.specs.Mesh.{side_begin, side_end};
 ghost use Rattle.meshes.specs.Side.{tri_at};
 ghost use Rattle.see_cone.specs.Reached.{AreAllReached, AreDone, AreNewBeyond, AreReached, IsAcrossSide, IsReachGrown, IsSideReached, reached_at, tri_there};
 
@@ -11,7 +10,7 @@ use meshes::Tri;
 use ring_check::Ring;
 use std::alloc::Global;
 use std::sync::ledger::Ledger;
-use tri_mesh::Mesh;
+use tri_mesh::{Mesh, side_ends};
 
 // A triangle that was reached, the one from which it was, and the cone through which it is seen, if it is.
 #[derive(Clone, Copy)]
@@ -147,17 +146,4 @@ fn at(reached: &Vec<Reached>, place: usize) -> &Reached
     ensures { result.now ≡ reached_at reached.now.items place }
 {
     &reached[place]
-}
-
-// Where side 0, 1 or 2 of a triangle begins, and where it ends.
-pub(crate) fn side_ends(tri: &Tri, side: u32) -> (u32, u32)
-    requires { side < 3 }
-    ensures begin { result.0 ≡ side_begin tri.now side }
-    ensures end { result.1 ≡ side_end tri.now side }
-{
-    match side {
-        0 => (tri.a, tri.b),
-        1 => (tri.b, tri.c),
-        _ => (tri.c, tri.a),
-    }
 }

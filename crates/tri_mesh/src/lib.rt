@@ -2,16 +2,15 @@
 #![tactic(auto)]
 
 mod corner;
-mod extremes;
-mod hierarchy;
 mod mesh;
 mod outward;
 mod search;
 mod sides;
 mod sleeve;
+mod triangle;
 
 pub use corner::triangle_at;
-pub use hierarchy::{Node, hierarchy_of};
 pub use mesh::Mesh;
 pub use outward::{Outward, Rooted};
 pub use sleeve::Sleeve;
+pub use triangle::{corner_opposite, has_corner, has_side, side_ends, side_number};

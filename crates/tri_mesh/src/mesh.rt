@@ -1,15 +1,14 @@
-ghost use Rattle.std.specs.List.{All, range_with_len};
+ghost use Rattle.std.specs.List.{range_with_len};
 ghost use Rattle.std.specs.Prelude.{◌≡◌, ◌+◌, ◌<◌, ◌^◌, ◌↔◌, ℕ, List, IfOk, IfSome, IsNone, length, vec_len};
 ghost use Rattle.plane.specs.Point.{Point};
 ghost use Rattle.meshes.specs.Fits.{Fits, IsPieceEdge, IsSideOfOne, IsSideOfTwo};
 ghost use Rattle.meshes.specs.Mesh.{IsMesh, side_begin, side_end};
 ghost use Rattle.meshes.specs.Side.{HasSidesOnce, IsTree, tri_at, HasCorner};
-ghost use Rattle.tri_mesh.specs.Hierarchy.{IsNamedBelow};
+ghost use Rattle.triangle_boxes.specs.Hierarchy.{AreNamedBelow};
 ghost use Rattle.tri_mesh.specs.Neighbours.{HasCornersBelow};
 ghost use Rattle.tri_mesh.specs.Outward.{IsOutward, IsRooted};
 
 use crate::corner::firsts_of;
-use crate::hierarchy::{Node, named_below};
 use crate::outward::{Outward, Rooted};
 use crate::search::Search;
 use crate::sides::neighbours;
@@ -17,6 +16,7 @@ use exact_plane::Memory;
 use meshes::Tri;
 use std::alloc::Global;
 use std::marker::Model;
+use triangle_boxes::Hierarchy;
 
 /// Triangles that fit some polygon, for each side the triangle on its other side, for each corner the first triangle that has it,
 /// and an order outward from triangle 0. It may keep a hierarchy, by which a search can choose where to look first.
@@ -26,15 +26,14 @@ pub struct Mesh {
     neighbours: Vec<[Option<u32>; 3]>,
     firsts: Vec<u32>,
     root: Search,
-    nodes: Vec<Node>,
+    hierarchy: Hierarchy,
 }
 
 impl Model for Mesh {
-    ghost use Rattle.std.specs.List.{All};
     ghost use Rattle.std.specs.Prelude.{◌+◌, List, vec_len};
     ghost use Rattle.meshes.specs.declared.tri.Tri.{Tri};
     ghost use Rattle.tri_mesh.specs.Corner.{KeepsFirsts};
-    ghost use Rattle.tri_mesh.specs.Hierarchy.{IsNamedBelow};
+    ghost use Rattle.triangle_boxes.specs.Hierarchy.{AreNamedBelow};
     ghost use Rattle.tri_mesh.specs.Neighbours.{KeepsNeighbours};
     ghost use Rattle.tri_mesh.specs.Outward.{IsRooted};
 
@@ -45,7 +44,7 @@ impl Model for Mesh {
     ghost invariant = { λ mesh. KeepsNeighbours mesh.tris.items mesh.neighbours.items
         × KeepsFirsts mesh.tris.items mesh.firsts.items
         × IsRooted mesh.tris.items 0 mesh.root.order.items mesh.root.places.items
-        × All (IsNamedBelow (vec_len mesh.tris + 2)) mesh.nodes.items };
+        × AreNamedBelow (vec_len mesh.tris + 2) mesh.hierarchy };
 }
 
 impl Mesh {
@@ -55,20 +54,20 @@ impl Mesh {
         requires few { vec_len tris < 2 ^ 30 }
         ensures { IfOk result (λ mesh. mesh ≡ tris.items) }
     {
-        Mesh::with_hierarchy(alloc, tris, Vec::new(alloc))
+        Mesh::with_hierarchy(alloc, tris, Hierarchy::empty(alloc))
     }
 
-    /// Returns the mesh of these triangles, which keeps the nodes of a hierarchy over them. After want of memory both lists are dropped.
-    pub fn with_hierarchy(alloc: Global, tris: Vec<Tri>, nodes: Vec<Node>) -> Result<Mesh, Memory>
+    /// Returns the mesh of these triangles, which keeps a hierarchy over them. If memory runs out, both are dropped.
+    pub fn with_hierarchy(alloc: Global, tris: Vec<Tri>, hierarchy: Hierarchy) -> Result<Mesh, Memory>
         requires fits { IsMesh tris.items }
         requires few { vec_len tris < 2 ^ 30 }
         ensures { IfOk result (λ mesh. mesh ≡ tris.items) }
     {
-        Mesh::of_tree(alloc, tris, nodes)
+        Mesh::of_tree(alloc, tris, hierarchy)
     }
 
     // The mesh of triangles that are a tree and have their sides once.
-    fn of_tree(alloc: Global, tris: Vec<Tri>, nodes: Vec<Node>) -> Result<Mesh, Memory>
+    fn of_tree(alloc: Global, tris: Vec<Tri>, hierarchy: Hierarchy) -> Result<Mesh, Memory>
         requires some { 0 < vec_len tris }
         requires tree { IsTree tris.items }
         requires sides { HasSidesOnce tris.items }
@@ -79,13 +78,13 @@ impl Mesh {
         let neighbours = neighbours(alloc, &tris)?;
         let firsts = firsts_of(alloc, &tris)?;
         let root = Search::from(alloc, &tris, &neighbours, 0)?;
-        let nodes = named_below(alloc, nodes, tris.len() + 2);
+        let hierarchy = hierarchy.named_below(alloc, tris.len() + 2);
         Ok(Mesh {
             tris,
             neighbours,
             firsts,
             root,
-            nodes,
+            hierarchy,
         })
     }
 
@@ -135,11 +134,11 @@ impl Mesh {
         self.firsts[i as usize]
     }
 
-    /// Returns the nodes of the hierarchy that it was made with, or none if one of their boxes is named by an index that no vertex has.
-    pub fn nodes(&self) -> &[Node]
-        ensures { All (IsNamedBelow (length self.now + 2)) result.now }
+    /// Returns the hierarchy that it was made with, or an empty one if one of its boxes is named by an index that no vertex has.
+    pub fn hierarchy(&self) -> &Hierarchy
+        ensures { AreNamedBelow (length self.now + 2) result.now }
     {
-        &self.nodes
+        &self.hierarchy
     }
 
     /// The triangles outward from `home`: each shares a side with one before it. All sides are looked at once.

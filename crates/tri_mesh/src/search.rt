@@ -1,12 +1,12 @@
 ghost use Rattle.std.specs.Prelude.{◌≡◌, ◌-◌, ◌<◌, ◌≤◌, ◌^◌, ◌↔◌, ◌++◌, IfOk, IsTrue, length, vec_capacity};
 ghost use Rattle.std.specs.List.{range_with_len};
-ghost use Rattle.meshes.specs.Mesh.{side_begin, side_end};
 ghost use Rattle.meshes.specs.Side.{HasSide, HasSidesOnce, tri_at};
 ghost use Rattle.tri_mesh.specs.Neighbours.{IsOwner, KeepsNeighbours};
 ghost use Rattle.tri_mesh.specs.Outward.{IsRooted, outward_at};
 ghost use Rattle.tri_mesh.specs.Search.{IsDone, IsGrown, IsReached, IsSearch, IsSideDone, waiting};
 
 use crate::outward::Outward;
+use crate::triangle::side_number;
 use exact_plane::Memory;
 use meshes::Tri;
 use std::alloc::Global;
@@ -112,7 +112,7 @@ impl Search {
         ensures reached { IsReached self.new.order.items k }
     {
         if !self.has(tris, k) {
-            let side = side_from(&tris[k as usize], from, to);
+            let side = side_number(&tris[k as usize], from, to).unwrap();
             self.places[k as usize] = self.order.len() as u32;
             self.order.push_reserved(Outward {
                 tri: k,
@@ -131,22 +131,6 @@ impl Search {
         // The prover learns from this call how many triangles there can be.
         let _count = tris.len();
         self.order[self.places[k as usize] as usize].tri == k
-    }
-}
-
-// The number of the side from one corner to another.
-fn side_from(tri: &Tri, from: u32, to: u32) -> u32
-    requires { HasSide tri.now from to }
-    ensures number { result < 3 }
-    ensures from { side_begin tri.now result ≡ from }
-    ensures to { side_end tri.now result ≡ to }
-{
-    if tri.a == from && tri.b == to {
-        0
-    } else if tri.b == from && tri.c == to {
-        1
-    } else {
-        2
     }
 }
 

@@ -1,11 +1,11 @@
 ghost use Rattle.std.specs.Prelude.{◌≡◌, ◌+◌, ◌*◌, ◌<◌, ◌^◌, ℕ, false, IfOk, IsTrue, None, Some};
 ghost use Rattle.std.specs.Prelude.{[], ◌∷◌, ◌++◌, length, replicate, slice_index, slice_set, vec_capacity};
-ghost use Rattle.meshes.specs.Mesh.{side_begin, side_end};
 ghost use Rattle.meshes.specs.Side.{HasSidesOnce, tri_at};
 ghost use Rattle.tri_mesh.specs.Neighbours.{AreChained, AreKept, AreLinkedRows, ArePaired, AreRowsOf, AreSeen};
 ghost use Rattle.tri_mesh.specs.Neighbours.{AreShared, HasCornersBelow};
 ghost use Rattle.tri_mesh.specs.Neighbours.{HasMore, HasOwner, IsLastAt, empty_row, last_up_to, mark_at, rows_linked, side_at, sides_of};
 
+use crate::triangle::side_ends;
 use exact_plane::Memory;
 use meshes::Tri;
 use std::alloc::Global;
@@ -103,7 +103,7 @@ fn side_at(tris: &[Tri], befores: &[u32], p: u32) -> Side
 {
     let tri = p / 3;
     let number = p % 3;
-    let (from, to) = ends(&tris[tri as usize], number);
+    let (from, to) = side_ends(&tris[tri as usize], number);
     Side {
         low: from.min(to),
         high: from.max(to),
@@ -111,24 +111,6 @@ fn side_at(tris: &[Tri], befores: &[u32], p: u32) -> Side
         number,
         before: last_up_to(befores[p as usize]),
     }
-}
-
-// The corners where a side of a triangle begins and ends.
-fn ends(tri: &Tri, number: u32) -> (u32, u32)
-    requires { number < 3 }
-    ensures { result ≡ (side_begin tri.now number, side_end tri.now number) }
-{
-    let Tri { a, b, c } = *tri;
-    (choice(number, a, b, c), choice(number, b, c, a))
-}
-
-// The first, second or third one. A choice between numbers that are there needs no jump.
-fn choice(number: u32, first: u32, second: u32, third: u32) -> u32
-    requires { number < 3 }
-    ensures { result ≡ slice_index (first ∷ second ∷ third ∷ []) number }
-{
-    let later = if number == 1 { second } else { third };
-    if number == 0 { first } else { later }
 }
 
 // Links the sides whose higher corner is `v`, where two are between the same corners, and marks the lower corners of some.

@@ -1,4 +1,4 @@
-use Rattle.std.proofs.Common.{◌≡◌, None, get_or, rules}
+use Rattle.std.proofs.Common.{◌≡◌, ap, None, get_or, rules}
 use Rattle.std.proofs.lemmas.List.{get_or_default}
 use Rattle.std.specs.Prelude.{IsNone}
 use Rattle.meshes.specs.Fits.{IsSideOfOne}
@@ -15,7 +15,7 @@ returns-in_ok-push c =
     let x = c.index-reached-place.result in
     let here : get_or reached p x ≡ reached_at reached p = get_or_default reached p x (record { tri = 0; from = 0; cone = None }) c.requires.place in
     let one = rw here at (c.across.ensures.none.0 (search rules)) in
-    rw (c.in_ok-push.ensures.items, c.side_ends-edge.ensures.begin, c.tri.ensures, here)
+    rw (c.in_ok-push.ensures.items, ap (λ p. p.0) c.side_ends-edge.ensures, c.tri.ensures, here)
     (edges_more c.args.mesh.now reached p c.args.edges.now.items c.args.side c.requires.before c.requires.fits.0 c.requires.fits.1
     c.requires.different c.requires.place c.requires.side one)
 

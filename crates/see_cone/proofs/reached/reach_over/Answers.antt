@@ -1,4 +1,4 @@
-use Rattle.std.proofs.Common.{refl, length-append, arith}
+use Rattle.std.proofs.Common.{ap, refl, length-append, arith}
 use Rattle.see_cone.proofs.ReachedMore.{back_done, none_done, over_all, side_below}
 use Rattle.see_cone.proofs.reached.reach_over.Goals as goal
 use Rattle.see_cone.specs.Reached.{IsAcrossSide, tri_there}
@@ -6,12 +6,12 @@ use Rattle.see_cone.specs.declared.reached.Reached.{Reached}
 
 pub corner-requires : goal.corner-requires
 corner-requires g c =
-    rw (c.side_ends-begin.ensures.end, c.tri.ensures, c.at.ensures)
+    rw (ap (λ p. p.1) c.side_ends-begin.ensures, c.tri.ensures, c.at.ensures)
     (side_below c.requires.fits c.requires.reached c.args.side.place c.requires.place c.args.side.number c.requires.side).1
 
 pub corner-requires-then-tri-here : goal.corner-requires-then-tri-here
 corner-requires-then-tri-here g c =
-    rw (c.side_ends-begin.ensures.begin, c.tri.ensures, c.at.ensures)
+    rw (ap (λ p. p.0) c.side_ends-begin.ensures, c.tri.ensures, c.at.ensures)
     (side_below c.requires.fits c.requires.reached c.args.side.place c.requires.place c.args.side.number c.requires.side).0
 
 pub returns-in_ok-push-in-Some : goal.returns-in_ok-push-in-Some
@@ -24,8 +24,8 @@ returns-in_ok-push-in-Some g c =
     let cone = rw (
       c.corner.ensures,
       c.corner-then-tri-here.ensures,
-      c.side_ends-begin.ensures.begin,
-      c.side_ends-begin.ensures.end,
+      ap (λ p. p.0) c.side_ends-begin.ensures,
+      ap (λ p. p.1) c.side_ends-begin.ensures,
       c.tri.ensures,
       at,
     ) at c.narrowed-cone.ensures.cone in

@@ -11,4 +11,4 @@ bounds-befores-p c = omega (arith, c.requires.place, length-sides c.args.tris.no
 pub returns : goal.returns
 returns c =
     let below : c.args.p < length c.args.befores.now = omega (arith, c.requires.place, length-sides c.args.tris.now c.args.befores.now) in
-    rw (read_side c.args.tris.now c.args.befores.now c.args.p below) (rw (c.min.ensures, c.max.ensures, c.last_up_to.ensures, c.ends-from.ensures) refl)
+    rw (read_side c.args.tris.now c.args.befores.now c.args.p below) (rw (c.min.ensures, c.max.ensures, c.last_up_to.ensures, c.side_ends-from.ensures) refl)

@@ -6,7 +6,8 @@ use Rattle.flip_tri.proofs.FlippedNeighbours.{HasBeside, IsFlip, count_after}
 use Rattle.flip_tri.proofs.FlippedRows.{knows_after, two_set, two_set_rows}
 use Rattle.flip_tri.proofs.SharedQuads.{has_beside, is_flip, is_flipped}
 use Rattle.flip_tri.specs.Flips.{KnowsNeighbours}
-use Rattle.flip_tri.specs.Shared.{AreTriangleRows, IsKnown, IsSideNumber, flipped}
+use Rattle.flip_tri.specs.Shared.{AreTriangleRows, IsKnown, flipped}
+use Rattle.tri_mesh.specs.Triangle.{IsSideNumber}
 use Rattle.flip_tri.proofs.flips.Flips.flip.Goals as goal
 use Rattle.flip_tri.proofs.flips.Flips.flip.Goals.{After-flipped}
 

@@ -6,9 +6,10 @@ use Rattle.meshes.specs.declared.tri.Tri.{Tri}
 use Rattle.tri_mesh.proofs.Neighbours.{has_side_numbered}
 use Rattle.flip_tri.proofs.HandedOver.{has_side_moved, side_numbered}
 use Rattle.flip_tri.proofs.SharedQuads.{entry_read}
-use Rattle.flip_tri.specs.Shared.{IsSideNumber, entry}
+use Rattle.flip_tri.specs.Shared.{entry}
+use Rattle.tri_mesh.specs.Triangle.{IsSideNumber}
 use Rattle.flip_tri.proofs.flips.Flips.shared.Goals as goal
-use Rattle.flip_tri.proofs.flips.Flips.shared.Goals.{After-number_of}
+use Rattle.flip_tri.proofs.flips.Flips.shared.Goals.{After-side_number}
 
 pub returns-in_err-far-clause-none : goal.returns-in_err-far-clause-none
 returns-in_err-far-clause-none c =
@@ -34,7 +35,7 @@ index-requires-3 c =
     omega (arith, within, size)
 
 -- the triangles on both sides have been read, and where the side begins and ends
-module _ (c : After-number_of) where
+module _ (c : After-side_number) where
   abbrev near_tri : Tri
   near_tri = tri_at c.args.self.now.tris.items c.args.near
 
@@ -50,15 +51,15 @@ module _ (c : After-number_of) where
   is_far : c.index-3.result.now ≡ tri_at c.args.self.now.tris.items c.in_ok-far.far
   is_far = get_or_read _ _ _ within c.index-3.ensures (record { a = 0; b = 0; c = 0 })
 
-  begins : c.ends-from.result.0 ≡ side_begin near_tri c.args.near_side
-  begins = ap (λ p. p.0) c.ends-from.ensures ∙ ap (λ u. side_begin u c.args.near_side) is_near
+  begins : c.side_ends-from.result.0 ≡ side_begin near_tri c.args.near_side
+  begins = ap (λ p. p.0) c.side_ends-from.ensures ∙ ap (λ u. side_begin u c.args.near_side) is_near
 
-  ends : c.ends-from.result.1 ≡ side_end near_tri c.args.near_side
-  ends = ap (λ p. p.1) c.ends-from.ensures ∙ ap (λ u. side_end u c.args.near_side) is_near
+  ends : c.side_ends-from.result.1 ≡ side_end near_tri c.args.near_side
+  ends = ap (λ p. p.1) c.side_ends-from.ensures ∙ ap (λ u. side_end u c.args.near_side) is_near
 
 pub returns-in_err-far_side-clause-none : goal.returns-in_err-far_side-clause-none
 returns-in_err-far_side-clause-none c =
-    let at = (goal.at.returns-in_err-far_side-clause-none c).After-number_of in
+    let at = (goal.at.returns-in_err-far_side-clause-none c).After-side_number in
     let a = c.args in
     let tris = a.self.now.tris.items in
     let t = tri_at tris a.near in
@@ -73,15 +74,15 @@ returns-in_err-far_side-clause-none c =
 
 pub returns-clause-some : goal.returns-clause-some
 returns-clause-some c =
-    let at = (goal.at.returns-clause-some c).After-number_of in
+    let at = (goal.at.returns-clause-some c).After-side_number in
     let a = c.args in
     let tris = a.self.now.tris.items in
     let t = tri_at tris a.near in
     let far = c.in_ok-far.far in
     let number : IsSideNumber (tri_at tris far) (side_end t a.near_side) (side_begin t a.near_side) c.in_ok-far_side.far_side =
     subst (λ i. IsSideNumber (tri_at tris far) i (side_begin t a.near_side) c.in_ok-far_side.far_side) (ends at)
-    (subst (λ j. IsSideNumber (tri_at tris far) c.ends-from.result.1 j c.in_ok-far_side.far_side) (begins at)
-    (subst (λ u. IsSideNumber u c.ends-from.result.1 c.ends-from.result.0 c.in_ok-far_side.far_side) (is_far at) c.in_ok-far_side.ensures.some)) in
+    (subst (λ j. IsSideNumber (tri_at tris far) c.side_ends-from.result.1 j c.in_ok-far_side.far_side) (begins at)
+    (subst (λ u. IsSideNumber u c.side_ends-from.result.1 c.side_ends-from.result.0 c.in_ok-far_side.far_side) (is_far at) c.in_ok-far_side.ensures.some)) in
     record {
       near = c.requires.near;
       far = within at;

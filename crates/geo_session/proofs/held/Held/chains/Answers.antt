@@ -8,7 +8,7 @@ use Rattle.rings.specs.Simple.{IsSimple}
 use Rattle.meshes.specs.Fits.{IsInTri}
 use Rattle.meshes.specs.Side.{tri_at}
 use Rattle.rel_hull.proofs.Costs.{one_more, within_rounds}
-use Rattle.funnel_walk.specs.Several.{ArePathsFrom}
+use Rattle.shared_walks.specs.Several.{ArePathsFrom}
 use Rattle.geo_session.proofs.HullRows.{end_held, ends_held, rest_of, row_cost, row_more}
 use Rattle.geo_session.proofs.HullTable.{number_in_list, table_of_ring}
 use Rattle.geo_session.proofs.held.Held.chains.Goals as goal

@@ -8,10 +8,10 @@ push_reserved-requires c =
     let tris = c.args.tris.now in
     let order = c.args.self.now.order.items in
     let new : ¬ IsReached order c.args.k = λ reached. absurd (cc (c.has.ensures.1 reached)) in
-    let side = c.side_from-side.ensures in
+    let side = rw c.unwrap-side.ensures at c.side_number.ensures.some in
     let fewer : length order < length tris =
-    fewer_reached tris order c.args.self.now.places.items c.requires.search c.args.k c.args.place c.side_from-side.result
-    c.requires.in_list new c.requires.place side.number (rw (side.to, side.from) c.requires.back) in
+    fewer_reached tris order c.args.self.now.places.items c.requires.search c.args.k c.args.place c.unwrap-side.result
+    c.requires.in_list new c.requires.place side.below (rw (side.ends, side.begins) c.requires.back) in
     omega (arith, fewer, c.requires.room, c.args.self.now.order.ok.0)
 
 pub returns-then-not-has-clause-search : goal.returns-then-not-has-clause-search
@@ -20,8 +20,8 @@ returns-then-not-has-clause-search c =
     let order = c.args.self.now.order.items in
     let number : c.len.result ≡ length order = omega (arith, c.len.ensures, c.args.self.now.order.ok.0) in
     let new : ¬ IsReached order c.args.k = λ reached. absurd (cc (c.has.ensures.1 reached)) in
-    let side = c.side_from-side.ensures in
+    let side = rw c.unwrap-side.ensures at c.side_number.ensures.some in
     rw (c.push_reserved.ensures.items, number)
-    (search_more tris order c.args.self.now.places.items c.requires.search c.args.k c.args.place c.side_from-side.result
+    (search_more tris order c.args.self.now.places.items c.requires.search c.args.k c.args.place c.unwrap-side.result
     c.requires.in_list new c.requires.place
-    side.number (rw (side.to, side.from) c.requires.back))
+    side.below (rw (side.ends, side.begins) c.requires.back))

@@ -1,8 +1,0 @@
-use Rattle.std.proofs.Common.{◌≡◌, ◌+◌, length, take, vec_capacity}
-use Rattle.funnel_walk.proofs.several.copied.Given as goal
-
-abbrev pub invariant-loop-name : goal.invariant-loop-name
-invariant-loop-name l = record {
-  copied : l.copy.items ≡ take l.name-index l.names;
-  room : vec_capacity l.copy ≡ length l.names + l.more;
-}

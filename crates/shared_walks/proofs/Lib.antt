@@ -1,0 +1,4 @@
+mod AllNumbers
+mod FoundPaths
+mod KeptFronts
+mod ShortPaths

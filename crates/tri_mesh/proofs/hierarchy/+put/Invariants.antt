@@ -1,5 +1,0 @@
-use Rattle.std.proofs.Common.{◌-◌}
-use Rattle.tri_mesh.proofs.hierarchy.+put.Given as goal
-
-abbrev pub decreases-put : goal.decreases-put
-decreases-put g l = l.end - l.first

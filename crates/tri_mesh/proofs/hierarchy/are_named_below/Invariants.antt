@@ -1,7 +1,0 @@
-use Rattle.std.proofs.Common.{ℕ, ◌<◌, get_or}
-use Rattle.tri_mesh.specs.Hierarchy.{IsNamedBelow}
-use Rattle.tri_mesh.specs.declared.hierarchy.Node.{Node}
-use Rattle.tri_mesh.proofs.hierarchy.are_named_below.Given as goal
-
-abbrev pub invariant-loop-i : goal.invariant-loop-i
-invariant-loop-i l = (k : ℕ) → (d : Node) → k < l.i → IsNamedBelow l.n (get_or l.nodes k d)
