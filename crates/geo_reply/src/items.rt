@@ -4,9 +4,10 @@ ghost use Rattle.std.specs.Prelude.{◌≡◌, ◌+◌, ◌≤◌, ◌++◌, Lis
 ghost use Rattle.geo_reply.specs.ReplyText.{corner_text, lines_text, part_text, side_text};
 ghost use Rattle.geo_reply.specs.Written.{corner_steps, part_steps, side_steps};
 
-use crate::lines::{put_corner, put_count, put_part, put_side};
+use crate::lines::{put_count, put_points};
 use crate::reply::Side;
 use exact_plane::{Hom, Memory, Steps};
+use geo_text::Ending;
 use see_cone::Part;
 use std::sync::ledger::Ledger;
 
@@ -43,32 +44,52 @@ pub(crate) fn put_items<T: Item, L: Ledger>(
     Ok(())
 }
 
+// A part takes 128 steps.
 impl Item for Part {
     ghost line = { part_text };
 
     ghost line_steps = { part_steps };
 
     fn put<L: Ledger>(&self, out: &mut Vec<u8>, steps: &mut Steps<L>) -> Result<(), Memory> {
-        put_part(out, self, steps)
+        let mut front = Ending::new();
+        front.put_hom(&self.first, steps);
+        front.put_index(self.edge);
+        front.put_word("part");
+        front.append_to(out)?;
+        let mut line = Ending::new();
+        line.put_word("\n");
+        line.put_hom(&self.last, steps);
+        line.append_to(out)
     }
 }
 
+// A corner of a kernel takes 64 steps.
 impl Item for Hom {
     ghost line = { corner_text };
 
     ghost line_steps = { corner_steps };
 
     fn put<L: Ledger>(&self, out: &mut Vec<u8>, steps: &mut Steps<L>) -> Result<(), Memory> {
-        put_corner(out, self, steps)
+        let mut line = Ending::new();
+        line.put_word("\n");
+        line.put_hom(self, steps);
+        line.put_word("corner");
+        line.append_to(out)
     }
 }
 
+// A side takes at most 64 steps for each point of its path.
 impl Item for Side {
     ghost line = { side_text };
 
     ghost line_steps = { side_steps };
 
     fn put<L: Ledger>(&self, out: &mut Vec<u8>, steps: &mut Steps<L>) -> Result<(), Memory> {
-        put_side(out, self, steps)
+        let mut front = Ending::new();
+        front.put_index(self.end);
+        front.put_index(self.start);
+        front.put_word("side");
+        front.append_to(out)?;
+        put_points(out, self.path.as_slice(), steps)
     }
 }

@@ -2,16 +2,15 @@
 ghost use Rattle.std.specs.Prelude.{◌≡◌, ◌+◌, ◌*◌, ◌≤◌, ◌<◌, ◌^◌, ◌++◌, codes, flat_map, length, take, vec_capacity, OnOk, OnErr};
 ghost use Rattle.geo_text.specs.Texts.{index_text, pt_text};
 ghost use Rattle.geo_text.specs.declared.ending.TheConstants.{ROOM};
-ghost use Rattle.geo_reply.specs.ReplyText.{before_text, broken_text, corner_text, count_text, from_text, froms_text, lines_text, numbers_text};
-ghost use Rattle.geo_reply.specs.ReplyText.{part_text, place_text, points_text, reply_text, side_text, sight_text, verdict_text};
-ghost use Rattle.geo_reply.specs.Written.{WritesSteps, corner_steps, part_steps, refused_steps, side_steps};
+ghost use Rattle.geo_reply.specs.ReplyText.{before_text, broken_text, count_text, from_text, froms_text, lines_text, numbers_text};
+ghost use Rattle.geo_reply.specs.ReplyText.{place_text, points_text, reply_text, sight_text, verdict_text};
+ghost use Rattle.geo_reply.specs.Written.{WritesSteps, refused_steps};
 
 use crate::items::put_items;
-use crate::reply::{Before, Reply, Side};
-use exact_plane::{Hom, Memory, Pt, Steps};
+use crate::reply::{Before, Reply};
+use exact_plane::{Memory, Pt, Steps};
 use geo_text::{Ending, put_bad, put_index, put_line_end, put_pt, put_word};
 use inside_test::Position;
-use see_cone::Part;
 use std::sync::ledger::Ledger;
 use taut_check::Verdict;
 
@@ -148,7 +147,7 @@ fn put_path<L: Ledger>(out: &mut Vec<u8>, points: &[Pt], steps: &mut Steps<L>) -
 
 // Appends how many points there are, each of them, and the end of the line. It succeeds if `out` has room for 18 bytes a point and
 // 12 more.
-fn put_points<L: Ledger>(
+pub(crate) fn put_points<L: Ledger>(
     out: &mut Vec<u8>,
     points: &[Pt],
     steps: &mut Steps<L>,
@@ -204,62 +203,6 @@ fn put_before(line: &mut Ending, before: Before)
         Before::Source => line.put_word(",s"),
         Before::Vertex(j) => line.put_index(j),
     }
-}
-
-// Appends the line of a part. It takes 128 steps.
-pub(crate) fn put_part<L: Ledger>(
-    out: &mut Vec<u8>,
-    part: &Part,
-    steps: &mut Steps<L>,
-) -> Result<(), Memory>
-    ensures ok { OnOk result (out.new.items ≡ out.old.items ++ part_text part.now) }
-    ensures front { OnErr result (take (length out.old.items) out.new.items ≡ out.old.items) }
-    ensures steps { steps.new ≤ steps.old + part_steps part.now }
-{
-    let mut front = Ending::new();
-    front.put_hom(&part.first, steps);
-    front.put_index(part.edge);
-    front.put_word("part");
-    front.append_to(out)?;
-    let mut line = Ending::new();
-    line.put_word("\n");
-    line.put_hom(&part.last, steps);
-    line.append_to(out)
-}
-
-// Appends the line of a corner. It takes 64 steps.
-pub(crate) fn put_corner<L: Ledger>(
-    out: &mut Vec<u8>,
-    corner: &Hom,
-    steps: &mut Steps<L>,
-) -> Result<(), Memory>
-    ensures ok { OnOk result (out.new.items ≡ out.old.items ++ corner_text corner.now) }
-    ensures front { OnErr result (take (length out.old.items) out.new.items ≡ out.old.items) }
-    ensures steps { steps.new ≤ steps.old + corner_steps corner.now }
-{
-    let mut line = Ending::new();
-    line.put_word("\n");
-    line.put_hom(corner, steps);
-    line.put_word("corner");
-    line.append_to(out)
-}
-
-// Appends the line of a side. It takes at most 64 steps for each point of its path.
-pub(crate) fn put_side<L: Ledger>(
-    out: &mut Vec<u8>,
-    side: &Side,
-    steps: &mut Steps<L>,
-) -> Result<(), Memory>
-    ensures ok { OnOk result (out.new.items ≡ out.old.items ++ side_text side.now) }
-    ensures front { OnErr result (take (length out.old.items) out.new.items ≡ out.old.items) }
-    ensures steps { steps.new ≤ steps.old + side_steps side.now }
-{
-    let mut front = Ending::new();
-    front.put_index(side.end);
-    front.put_index(side.start);
-    front.put_word("side");
-    front.append_to(out)?;
-    put_points(out, side.path.as_slice(), steps)
 }
 
 // Appends the lines of the pairs of vertices that see each other.

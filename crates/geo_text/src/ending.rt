@@ -114,9 +114,9 @@ impl Ending {
         }
     }
 
-    /// Puts a comma, x, a comma and y before it. It takes 64 steps.
+    // Puts a comma, x, a comma and y before it. It takes 64 steps.
     #[inline]
-    pub fn put_pt<L: Ledger>(&mut self, p: &Pt, steps: &mut Steps<L>)
+    pub(crate) fn put_pt<L: Ledger>(&mut self, p: &Pt, steps: &mut Steps<L>)
         requires { 42 + length self.old ≤ ROOM }
         ensures text { self.new ≡ pt_text p.now ++ self.old }
         ensures longer { length self.new ≤ 18 + length self.old }

@@ -24,6 +24,5 @@ pub use points::Points;
 pub use put::{put_bad, put_hom, put_index, put_line_end, put_pt, put_word};
 pub use reading::command_in_numbers;
 pub use script::Script;
-pub use takes::Takes;
 pub use version::Version;
 pub use word::Word;

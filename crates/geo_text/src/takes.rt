@@ -3,18 +3,18 @@ ghost use Rattle.geo_text.specs.Words.{count_fault};
 
 use crate::command::Bad;
 
-/// What a word takes.
+// What a word takes.
 #[derive(Clone, Copy)]
-pub enum Takes {
-    /// Just so many numbers.
+pub(crate) enum Takes {
+    // Just so many numbers.
     Numbers(usize),
-    /// A list of points, of which there are `least` to `most`.
+    // A list of points, of which there are `least` to `most`.
     Points { least: usize, most: usize },
 }
 
 impl Takes {
-    /// What is wrong with a count of fields, if anything.
-    pub fn fault(self, count: usize) -> Option<Bad>
+    // What is wrong with a count of fields, if anything.
+    pub(crate) fn fault(self, count: usize) -> Option<Bad>
         ensures { result ≡ count_fault self count }
     {
         match self {

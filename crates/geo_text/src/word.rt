@@ -103,8 +103,8 @@ impl Word {
         }
     }
 
-    /// What the word takes.
-    pub fn takes(self, limits: &Limits) -> Takes
+    // What the word takes.
+    pub(crate) fn takes(self, limits: &Limits) -> Takes
         ensures { result ≡ takes_of limits.now self }
     {
         match self {

@@ -1,5 +1,5 @@
 use Rattle.geo_reply.proofs.Fronts.{front_through}
-use Rattle.geo_reply.proofs.lines.put_side.Goals as goal
+use Rattle.geo_reply.proofs.items.SideItem.put.Goals as goal
 
 pub returns-clause-front : goal.returns-clause-front
 returns-clause-front g c =
