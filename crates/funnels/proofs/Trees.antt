@@ -9,14 +9,10 @@ use Rattle.std.proofs.Common.{◌<◌, take}
 use Rattle.std.proofs.lemmas.List.{append-nil, append_assoc, get_or_append_left, get_or_push, length-append}
 use Rattle.plane.proofs.Points.{whole_is_point}
 use Rattle.plane.specs.Point.{Point, whole}
-use Rattle.rings.specs.Chain.{point_at, IsBentChain, IsPath, IsTaut}
+use Rattle.rings.specs.Prelude.{IsBentChain, IsIn, IsPath, IsSimple, IsTaut, origin, point_at, vertex}
 use Rattle.rings.specs.From.{IsPredecessor}
-use Rattle.rings.specs.Inside.{IsIn}
-use Rattle.rings.specs.Ring.{origin, vertex}
-use Rattle.rings.specs.Simple.{IsSimple}
 use Rattle.meshes.proofs.Sight.{sees_in_triangle, triangle_in_ring}
-use Rattle.meshes.specs.Fits.{Fits, IsInTri}
-use Rattle.meshes.specs.Side.{HasSide, tri_at}
+use Rattle.meshes.specs.Prelude.{Fits, HasSide, IsInTri, tri_at}
 use Rattle.meshes.specs.declared.tri.Tri.{Tri}
 use Rattle.funnels.proofs.Bends.{chain_more, last_end_in}
 use Rattle.funnels.proofs.Chains.{one_bent, chain_on, corner_differs, reached_bends, sees_reached}

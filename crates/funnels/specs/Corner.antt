@@ -1,12 +1,10 @@
 -- A corner of a triangle of a mesh, seen from either side, and the order in which a chain goes along a walk. This project's own.
 use Rattle.std.specs.Prelude.{◌≡◌, ℕ, ◌+◌, ◌<◌, Bool, true, false, pos, ◌≤ℤ◌, List, length}
 use Rattle.plane.specs.Point.{Point, Triple, whole}
-use Rattle.rings.specs.Chain.{IsInner, point_at}
-use Rattle.rings.specs.Ring.{vertex}
-use Rattle.meshes.specs.Fits.{IsInTri}
-use Rattle.meshes.specs.Laws.{CrossesSide, walk_tri}
-use Rattle.meshes.specs.Side.{HasSide}
+use Rattle.rings.specs.Prelude.{IsInner, point_at, vertex}
+use Rattle.meshes.specs.Prelude.{HasSide, IsInTri}
 use Rattle.meshes.specs.declared.tri.Tri.{Tri}
+use Rattle.meshes.specs.Laws.{CrossesSide, walk_tri}
 use Rattle.funnels.specs.Fanned.{turning}
 
 -- the triangle has the sides from `before` to corner v and from v to `after`; or, on the other side, in the other direction

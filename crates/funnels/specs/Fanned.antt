@@ -1,11 +1,8 @@
 -- A vertex of a ring at which the ring is open from one ray round to another, with no edge in between. This project's own.
 use Rattle.std.specs.List.{All}
 use Rattle.std.specs.Prelude.{◌≡◌, ◌⊎◌, Bool, true, false, ℤ, neg_ℤ, List}
-use Rattle.plane.specs.Point.{IsPoint, IsSame, Point, Triple, whole}
-use Rattle.plane.specs.Segment.{On}
-use Rattle.plane.specs.Turn.{determinant}
-use Rattle.rings.specs.Bend.{AreNeighbours}
-use Rattle.rings.specs.Sees.{Sees}
+use Rattle.plane.specs.Prelude.{determinant, IsPoint, IsSame, On, Point, Triple, whole}
+use Rattle.rings.specs.Prelude.{AreNeighbours, Sees}
 use Rattle.funnels.specs.Fan.{IsFan}
 
 -- positive where, seen from v, the second is left of the first, or on the other side right of it

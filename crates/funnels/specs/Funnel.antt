@@ -1,7 +1,6 @@
 -- Funnels: two convex chains from an apex to the ends of a diagonal. Lee and Preparata 1984.
 use Rattle.std.specs.Prelude.{◌≡◌, ◌⊎◌, List, length, ℕ, ◌+◌, ◌-◌, ◌<◌, ◌≤◌}
-use Rattle.plane.specs.Point.{Point, Triple, whole}
-use Rattle.plane.specs.Turn.{IsLeft, IsRight}
+use Rattle.plane.specs.Prelude.{IsLeft, IsRight, Point, Triple, whole}
 use Rattle.rings.specs.Chain.{point_at}
 
 -- the extension of the edge from u to w meets the diagonal from l, on the left, to r

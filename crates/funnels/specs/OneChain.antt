@@ -1,13 +1,10 @@
 -- The laws of chains with bends, as statements: where they bend, and that there is one between two points. This project's own.
 use Rattle.std.specs.Prelude.{◌≡◌, ◌⊎◌, ℕ, ◌-◌, ◌<◌, ◌≤◌, List, length}
 use Rattle.plane.specs.Point.{Point, whole}
-use Rattle.rings.specs.Chain.{IsBentChain, IsInner, IsPath, IsTaut, point_at}
-use Rattle.rings.specs.Ring.{vertex}
-use Rattle.rings.specs.Simple.{IsSimple}
-use Rattle.meshes.specs.Fits.{Fits, IsInTri}
-use Rattle.meshes.specs.Laws.{walk_tri}
-use Rattle.meshes.specs.Side.{IsWalk}
+use Rattle.rings.specs.Prelude.{IsBentChain, IsInner, IsPath, IsSimple, IsTaut, point_at, vertex}
+use Rattle.meshes.specs.Prelude.{Fits, IsInTri, IsWalk}
 use Rattle.meshes.specs.declared.tri.Tri.{Tri}
+use Rattle.meshes.specs.Laws.{walk_tri}
 
 -- the point is a corner of the triangle
 abbrev pub IsCornerOf : List Point → Tri → Point → Type 0

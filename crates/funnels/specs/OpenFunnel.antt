@@ -1,12 +1,8 @@
 -- The funnel of a source at a diagonal of a triangulated ring, with what its points see and how the chains to them bend. Lee and
 -- Preparata 1984.
 use Rattle.std.specs.Prelude.{◌≡◌, ◌⊎◌, ℕ, zero, suc, ◌+◌, ◌-◌, ◌<◌, Bool, true, false, pos, ◌<ℤ◌, List, [], ◌∷◌, ◌++◌, length}
-use Rattle.plane.specs.Point.{IsPoint, Point, Triple, whole}
-use Rattle.plane.specs.Segment.{On}
-use Rattle.rings.specs.Bend.{IsBend}
-use Rattle.rings.specs.Chain.{IsBentChain, point_at}
-use Rattle.rings.specs.Ring.{vertex}
-use Rattle.rings.specs.Sees.{Sees}
+use Rattle.plane.specs.Prelude.{IsPoint, On, Point, Triple, whole}
+use Rattle.rings.specs.Prelude.{IsBend, IsBentChain, point_at, Sees, vertex}
 use Rattle.funnels.specs.Fanned.{IsFanned, turning}
 use Rattle.funnels.specs.Funnel.{IsFunnel, IsFunnelEdge, IsInWindow}
 

@@ -2,10 +2,8 @@
 -- the left. This project's own.
 use Rattle.std.specs.Prelude.{◌≡◌, ℕ, Bool, true, false, not, ℤ, pos, neg_ℤ, ◌<ℤ◌, List}
 use Rattle.plane.specs.Line.{cross_product}
-use Rattle.plane.specs.Point.{IsPoint, Point, Triple, whole}
-use Rattle.plane.specs.Segment.{On}
-use Rattle.rings.specs.Bend.{AreNeighbours}
-use Rattle.rings.specs.Ring.{vertex}
+use Rattle.plane.specs.Prelude.{IsPoint, On, Point, Triple, whole}
+use Rattle.rings.specs.Prelude.{AreNeighbours, vertex}
 use Rattle.funnels.specs.Fanned.{turning}
 
 -- positive where the way from q to g turns off to the left of the way from p to h, or on the other side to the right

@@ -1,11 +1,8 @@
 -- How far a search for the vertices that a chain touches has come along the chain. This project's own.
 use Rattle.std.specs.Prelude.{◌≡◌, ◌⊎◌, ◌↔◌, ℕ, ◌+◌, ◌<◌, ◌≤◌, List, [], ◌∷◌, ◌++◌, length, take}
-use Rattle.plane.specs.Point.{Point, whole}
-use Rattle.plane.specs.Segment.{On}
-use Rattle.rings.specs.Chain.{point_at}
-use Rattle.rings.specs.Edge.{Has}
+use Rattle.plane.specs.Prelude.{On, Point, whole}
+use Rattle.rings.specs.Prelude.{Has, point_at, vertex}
 use Rattle.rings.specs.Full.{AreInOrder, IsFull, IsVertexBetween}
-use Rattle.rings.specs.Ring.{vertex}
 
 -- the chain goes on from place k, and v is on the way from the last point to the next one, and not the last point
 pub record IsAhead (chain : List Point) (k : ℕ) (last v : Point) : Type 0 where

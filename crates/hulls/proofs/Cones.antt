@@ -15,11 +15,8 @@ use Rattle.plane.proofs.Points.{same_whole, whole_is_point}
 use Rattle.plane.proofs.Segments.{on_is_straight, on_reversed, same_without_first, same_without_last, on_first_end}
 use Rattle.plane.proofs.Turns.{combination_of_ends, determinant_same_ends, straight_shift_back, determinant_swap_last, straight_swap_last}
 use Rattle.plane.proofs.Turns.{determinant_shift}
-use Rattle.plane.specs.Point.{Point, whole}
-use Rattle.plane.specs.Segment.{On}
-use Rattle.plane.specs.Turn.{IsStraight, IsLeft, IsRight, determinant}
-use Rattle.rings.specs.Bend.{IsBend, AreNeighbours}
-use Rattle.rings.specs.Simple.{IsSimple}
+use Rattle.plane.specs.Prelude.{determinant, IsLeft, IsRight, IsStraight, On, Point, whole}
+use Rattle.rings.specs.Prelude.{AreNeighbours, IsBend, IsSimple}
 use Rattle.ring_laws.proofs.Triangles.{left_of, left_of_is_left}
 use Rattle.funnels.proofs.Bends.{turning_along, level_is_vertex, ray_behind, turning_four, turnings_of_bend, two_rays, turning_straight}
 use Rattle.funnels.proofs.Bends.{turning_swap, wider_bend}

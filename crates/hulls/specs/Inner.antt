@@ -1,8 +1,7 @@
 -- Points on paths between others, and pairs of points that all others are to the left of. This project's own, after Toussaint 1986.
 use Rattle.std.specs.Prelude.{◌≢◌, ℕ, ◌<◌, List, length}
 use Rattle.plane.specs.Point.{Point, whole}
-use Rattle.rings.specs.Chain.{point_at}
-use Rattle.rings.specs.Inside.{IsIn}
+use Rattle.rings.specs.Prelude.{IsIn, point_at}
 use Rattle.hulls.specs.Joined.{IsOnPath}
 use Rattle.hulls.specs.Turning.{IsToLeft}
 

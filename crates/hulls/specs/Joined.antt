@@ -1,9 +1,7 @@
 -- Points that a path joins over a point. This project's own.
 use Rattle.std.specs.Prelude.{◌≡◌, ◌≢◌, ◌⊎◌, ℕ, ◌+◌, ◌<◌, List, length}
-use Rattle.plane.specs.Point.{Point, whole}
-use Rattle.plane.specs.Segment.{On}
-use Rattle.rings.specs.Bend.{IsBend}
-use Rattle.rings.specs.Chain.{IsPath, point_at}
+use Rattle.plane.specs.Prelude.{On, Point, whole}
+use Rattle.rings.specs.Prelude.{IsBend, IsPath, point_at}
 
 -- v is strictly between p and q, or the way from p over v to q has a bend there
 abbrev pub AreJoined : List Point → Point → Point → Point → Type 0

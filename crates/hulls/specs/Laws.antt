@@ -1,10 +1,7 @@
 -- Laws of points that paths join over a point, and of how paths turn against each other, as statements. This project's own.
 use Rattle.std.specs.Prelude.{◌↔◌, ◌≤◌, ◌≢◌, ◌⊎◌, ℕ, List, length}
-use Rattle.plane.specs.Point.{Point, whole}
-use Rattle.plane.specs.Turn.{IsLeft, IsRight, IsStraight}
-use Rattle.rings.specs.Chain.{IsPath}
-use Rattle.rings.specs.Inside.{IsIn}
-use Rattle.rings.specs.Simple.{IsSimple}
+use Rattle.plane.specs.Prelude.{IsLeft, IsRight, IsStraight, Point, whole}
+use Rattle.rings.specs.Prelude.{IsIn, IsPath, IsSimple}
 use Rattle.hulls.specs.Inner.{AreAllIn, AreDistinct, IsOuterPair}
 use Rattle.hulls.specs.Joined.{AreJoined, IsFirstStep, IsOnPath}
 use Rattle.hulls.specs.Steps.{SeesSteps}

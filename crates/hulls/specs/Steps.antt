@@ -1,12 +1,9 @@
 -- Steps of a path past no vertex, as they are seen from a point by its paths to both ends. This project's own.
 use Rattle.std.specs.Prelude.{◌≢◌, List}
-use Rattle.plane.specs.Point.{Point, whole}
-use Rattle.plane.specs.Segment.{On}
-use Rattle.plane.specs.Turn.{IsLeft, IsRight}
+use Rattle.plane.specs.Prelude.{IsLeft, IsRight, On, Point, whole}
 use Rattle.rings.specs.From.{IsPredecessor}
 use Rattle.rings.specs.Full.{IsVertexBetween}
-use Rattle.rings.specs.Inside.{IsIn}
-use Rattle.rings.specs.Sees.{Sees}
+use Rattle.rings.specs.Prelude.{IsIn, Sees}
 use Rattle.hulls.specs.Joined.{IsOnPath}
 
 -- two points that see each other, with no vertex strictly between them

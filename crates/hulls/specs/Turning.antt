@@ -1,8 +1,6 @@
 -- How paths from one point turn against each other, by the sides of points alone. This project's own, after Toussaint 1986.
 use Rattle.std.specs.Prelude.{◌≡◌, ◌≢◌, ◌⊎◌, List, ◌∷◌, ◌++◌}
-use Rattle.plane.specs.Point.{Point, Triple, whole}
-use Rattle.plane.specs.Segment.{On}
-use Rattle.plane.specs.Turn.{IsLeft, IsRight, IsStraight}
+use Rattle.plane.specs.Prelude.{IsLeft, IsRight, IsStraight, On, Point, Triple, whole}
 use Rattle.rings.specs.Chain.{IsPath}
 use Rattle.hulls.specs.Joined.{IsFirstStep, IsOnPath}
 

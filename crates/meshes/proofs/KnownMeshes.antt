@@ -3,7 +3,7 @@ use Rattle.std.proofs.Common.{pos, List, [], ◌∷◌}
 use Rattle.std.specs.Int.Signed.{lt_z_yes}
 use Rattle.plane.specs.Point.{Point}
 use Rattle.meshes.proofs.Sides.{fits_triangle}
-use Rattle.meshes.specs.Mesh.{IsMesh}
+use Rattle.meshes.specs.Prelude.{IsMesh}
 use Rattle.meshes.specs.declared.tri.Tri.{Tri}
 
 -- a triangle alone, with corners (0, 0), (1, 0) and (0, 1)

@@ -3,8 +3,7 @@
 use Rattle.std.specs.Int.Signed.{lt_z}
 use Rattle.std.specs.Prelude.{◌≡◌, ◌⊎◌, ◌↔◌, ℕ, pos, Bool, ◌||◌, if◌then◌else◌, List, Option, Some, None}
 use Rattle.plane.specs.Line.{cross_product}
-use Rattle.plane.specs.Point.{IsPoint, Point, Triple, whole}
-use Rattle.plane.specs.Turn.{IsLeft, IsRight, IsStraight, determinant}
+use Rattle.plane.specs.Prelude.{determinant, IsLeft, IsPoint, IsRight, IsStraight, Point, Triple, whole}
 use Rattle.rings.specs.Sees.{Sees}
 use Rattle.meshes.specs.Fits.{IsInTri}
 use Rattle.meshes.specs.Side.{tri_at}

@@ -1,12 +1,8 @@
 -- Lists of triangles that fit a polygon: triangulations without new vertices. As in the textbooks.
 use Rattle.std.specs.List.{Contains, range_with_len}
 use Rattle.std.specs.Prelude.{◌≡◌, ◌⊎◌, ◌↔◌, ℕ, ◌+◌, ◌%◌, ◌<◌, List, length, map, slice_index_or}
-use Rattle.plane.specs.Point.{IsPoint, Point, Triple, whole}
-use Rattle.plane.specs.Triangle.{IsInTriangle}
-use Rattle.plane.specs.Turn.{IsLeft}
-use Rattle.rings.specs.Inside.{IsIn}
-use Rattle.rings.specs.Ring.{vertex}
-use Rattle.rings.specs.Simple.{IsSimple}
+use Rattle.plane.specs.Prelude.{IsInTriangle, IsLeft, IsPoint, Point, Triple, whole}
+use Rattle.rings.specs.Prelude.{IsIn, IsSimple, vertex}
 use Rattle.meshes.specs.Side.{HasSide, HasSideBetween, IsTree, tri_at}
 use Rattle.meshes.specs.declared.tri.Tri.{Tri}
 

@@ -1,11 +1,7 @@
 -- The laws of triangulations, as statements. As in the textbooks; sleeves: Lee and Preparata 1984.
 use Rattle.std.specs.Prelude.{◌≡◌, ◌↔◌, ℕ, ◌+◌, ◌-◌, ◌<◌, ◌≤◌, List, [], ◌∷◌, ◌++◌, length, slice_index_or, zero, suc}
-use Rattle.plane.specs.Point.{IsPoint, Point, Triple, whole}
-use Rattle.plane.specs.Segment.{Meet, On}
-use Rattle.rings.specs.Orientation.{IsCounterclockwise}
-use Rattle.rings.specs.Ring.{vertex}
-use Rattle.rings.specs.Sees.{Sees}
-use Rattle.rings.specs.Simple.{IsSimple}
+use Rattle.plane.specs.Prelude.{IsPoint, Meet, On, Point, Triple, whole}
+use Rattle.rings.specs.Prelude.{IsCounterclockwise, IsSimple, Sees, vertex}
 use Rattle.meshes.specs.Fits.{Fits, FitsPiece, IsInTri, IsPieceEdge, IsSideOfTwo, piece_points}
 use Rattle.meshes.specs.Side.{HasSide, HasSideBetween, IsTree, IsWalk, ShareSide, tri_at}
 use Rattle.meshes.specs.declared.tri.Tri.{Tri}

@@ -4,6 +4,7 @@ pub mod Fits
 pub mod Laws
 pub mod Mesh
 pub mod Piece
+pub mod Prelude
 pub mod Side
 pub mod Sleeve
 pub mod Tiling

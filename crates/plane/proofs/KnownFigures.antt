@@ -2,10 +2,7 @@
 use Rattle.std.proofs.Common.{◌≡◌, inl, inr, ℕ, ◌≤◌, refl, ℤ, pos, negsuc, ◌*ℤ◌, lit≤, arith}
 use Rattle.std.proofs.lemmas.Int.{clamps, ints}
 use Rattle.plane.specs.Box.{BoxesMeet}
-use Rattle.plane.specs.Order.{IsBefore}
-use Rattle.plane.specs.Point.{Point, Triple}
-use Rattle.plane.specs.Segment.{Meet, MeetElsewhere, On, part_of_way}
-use Rattle.plane.specs.Turn.{determinant}
+use Rattle.plane.specs.Prelude.{determinant, IsBefore, Meet, MeetElsewhere, On, part_of_way, Point, Triple}
 
 abbrev at : ℤ → ℤ → Triple
 at x y = record { X = x; Y = y; W = pos 1 }

@@ -8,6 +8,7 @@ pub mod Line
 pub mod Order
 pub mod Pairs
 pub mod Point
+pub mod Prelude
 pub mod Region
 pub mod Segment
 pub mod Square

@@ -4,16 +4,9 @@ use Rattle.std.proofs.lemmas.Int.{ints}
 use Rattle.std.specs.Int.Signed.{lt_z_yes}
 use Rattle.plane.proofs.Points.{whole_is_point}
 use Rattle.plane.proofs.Segments.{on_is_straight, middle, middle_is_point, middle_on}
-use Rattle.plane.specs.Point.{Point, Triple, whole}
-use Rattle.plane.specs.Segment.{On}
-use Rattle.plane.specs.Triangle.{height_over}
-use Rattle.plane.specs.Turn.{IsStraight}
+use Rattle.plane.specs.Prelude.{height_over, IsStraight, On, Point, Triple, whole}
 use Rattle.rings.proofs.Simple.{apart_of_simple}
-use Rattle.rings.specs.Edge.{IsOnSome, edges_of}
-use Rattle.rings.specs.Inside.{IsIn, winding}
-use Rattle.rings.specs.Orientation.{doubled_area, turned_round}
-use Rattle.rings.specs.Ring.{vertex}
-use Rattle.rings.specs.Simple.{IsSimple}
+use Rattle.rings.specs.Prelude.{doubled_area, edges_of, IsIn, IsOnSome, IsSimple, turned_round, vertex, winding}
 use Rattle.rings.specs.Winding.{IsLeastVertex, RunsCounterclockwise}
 use Rattle.ring_laws.proofs.Diagonals.{cut_is_diagonal_at}
 use Rattle.ring_laws.proofs.Simple.{triangle_law}

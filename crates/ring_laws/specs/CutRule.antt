@@ -1,8 +1,6 @@
 -- The segment that cuts a ring at a vertex: from the textbooks' proof that a simple polygon has a diagonal.
 use Rattle.std.specs.Prelude.{◌≡◌, ◌⊎◌, ℕ, ◌+◌, ◌-◌, ◌<◌, ◌≤ℤ◌, List, length}
-use Rattle.plane.specs.Point.{Point, whole}
-use Rattle.plane.specs.Triangle.{IsInTriangle, height_over}
-use Rattle.plane.specs.Turn.{IsLeft}
+use Rattle.plane.specs.Prelude.{height_over, IsInTriangle, IsLeft, Point, whole}
 use Rattle.rings.specs.Ring.{vertex}
 
 -- p and q are the two neighbours of vertex i, named so that the turn from p over vertex i to q is left

@@ -2,9 +2,7 @@
 use Rattle.std.specs.Prelude.{◌↔◌, ℕ, ◌<◌, ◌≤◌, List, length}
 use Rattle.plane.specs.Point.{IsPoint, Point, Triple}
 use Rattle.rings.specs.Kernel.{IsInKernel, IsRightOfNoEdge}
-use Rattle.rings.specs.Orientation.{IsCounterclockwise}
-use Rattle.rings.specs.Ring.{vertex}
-use Rattle.rings.specs.Simple.{IsSimple}
+use Rattle.rings.specs.Prelude.{IsCounterclockwise, IsSimple, vertex}
 use Rattle.rings.specs.Winding.{IsLeastVertex, RunsAsItTurns}
 use Rattle.ring_laws.specs.CutRule.{IsCutAt}
 use Rattle.ring_laws.specs.Diagonal.{IsDiagonal}

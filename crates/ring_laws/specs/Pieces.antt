@@ -1,9 +1,7 @@
 -- The two pieces of a ring that is cut from one vertex to another. As in the textbooks.
 use Rattle.std.specs.Prelude.{◌⊎◌, ◌↔◌, ℕ, ◌+◌, ◌-◌, List, ◌++◌, take, drop}
-use Rattle.plane.specs.Point.{IsPoint, Point, Triple, whole}
-use Rattle.plane.specs.Segment.{On}
-use Rattle.rings.specs.Inside.{IsIn}
-use Rattle.rings.specs.Simple.{IsSimple}
+use Rattle.plane.specs.Prelude.{IsPoint, On, Point, Triple, whole}
+use Rattle.rings.specs.Prelude.{IsIn, IsSimple}
 
 -- of a cut from vertex i to a later vertex j: the vertices i to j,
 abbrev pub first_piece : List Point → ℕ → ℕ → List Point

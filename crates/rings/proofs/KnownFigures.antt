@@ -4,8 +4,7 @@ use Rattle.std.specs.Int.Signed.{lt_z_yes}
 use Rattle.plane.specs.Point.{Point, Triple}
 use Rattle.rings.proofs.Vertices.{backward, edge_at}
 use Rattle.rings.specs.Across.{CrossesRight}
-use Rattle.rings.specs.Edge.{edges_of}
-use Rattle.rings.specs.Inside.{crossings, winding}
+use Rattle.rings.specs.Prelude.{crossings, edges_of, winding}
 
 -- a square with sides of length 2, counterclockwise
 abbrev square : List Point

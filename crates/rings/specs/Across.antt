@@ -1,8 +1,6 @@
 -- Segments that miss all edges of a list, or cross one. This project's own.
 use Rattle.std.specs.Prelude.{List}
-use Rattle.plane.specs.Point.{IsPoint, Triple, whole}
-use Rattle.plane.specs.Segment.{On}
-use Rattle.plane.specs.Turn.{IsLeft, IsRight}
+use Rattle.plane.specs.Prelude.{IsLeft, IsPoint, IsRight, On, Triple, whole}
 use Rattle.rings.specs.Edge.{Edge, IsOnSome}
 
 -- no rational point on the segment from p to q is on an edge of the list

@@ -1,7 +1,6 @@
 -- One edge below another, as a sweep in lexicographic order compares them. This project's own, after Shamos and Hoey 1976.
 use Rattle.std.specs.Prelude.{◌≡◌, ◌⊎◌}
-use Rattle.plane.specs.Point.{Point, whole}
-use Rattle.plane.specs.Turn.{IsLeft, IsRight}
+use Rattle.plane.specs.Prelude.{IsLeft, IsRight, Point, whole}
 use Rattle.rings.specs.Edge.{Edge}
 
 -- of the point p of edge e and the point q of edge f, one shows that e is strictly below f

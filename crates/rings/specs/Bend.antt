@@ -1,8 +1,7 @@
 -- Bends at reflex vertices. The local property of the path: Lee and Preparata 1984.
 use Rattle.std.specs.Prelude.{◌≡◌, ◌⊎◌, ℕ, ◌+◌, ◌<◌, List, length}
 use Rattle.plane.specs.Cone.{IsInCone}
-use Rattle.plane.specs.Point.{Point, whole}
-use Rattle.plane.specs.Turn.{IsStraight}
+use Rattle.plane.specs.Prelude.{IsStraight, Point, whole}
 use Rattle.rings.specs.Orientation.{IsReflex}
 use Rattle.rings.specs.Ring.{vertex}
 

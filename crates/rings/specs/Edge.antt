@@ -1,7 +1,6 @@
 -- Directed edges, and lists of them. This project's own.
 use Rattle.std.specs.Prelude.{◌≡◌, ◌⊎◌, ℤ, pos, ◌+ℤ◌, ◌-ℤ◌, List, [], ◌∷◌}
-use Rattle.plane.specs.Point.{Point, Triple, whole}
-use Rattle.plane.specs.Segment.{On}
+use Rattle.plane.specs.Prelude.{On, Point, Triple, whole}
 
 pub record Edge : Type 0 where
   pub from : Point

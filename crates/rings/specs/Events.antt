@@ -1,8 +1,7 @@
 -- The events of a sweep: the vertices of a ring in lexicographic order. The event points of the textbooks.
 use Rattle.std.specs.List.{All}
 use Rattle.std.specs.Prelude.{◌≡◌, ℕ, ◌+◌, ◌-◌, ◌<◌, nat_lt, if◌then◌else◌, List, length, slice_index}
-use Rattle.plane.specs.Order.{IsBefore}
-use Rattle.plane.specs.Point.{Point}
+use Rattle.plane.specs.Prelude.{IsBefore, Point}
 use Rattle.rings.specs.Edge.{Edge, edge}
 use Rattle.rings.specs.Ring.{vertex}
 

@@ -1,7 +1,6 @@
 -- Chains of points together with all vertices of a ring that they touch. This project's own.
 use Rattle.std.specs.Prelude.{◌≡◌, ◌↔◌, ℕ, ◌<◌, List, [], ◌∷◌, ◌++◌, length}
-use Rattle.plane.specs.Point.{Point, whole}
-use Rattle.plane.specs.Segment.{On}
+use Rattle.plane.specs.Prelude.{On, Point, whole}
 use Rattle.rings.specs.Edge.{Has}
 use Rattle.rings.specs.Ring.{vertex}
 

@@ -1,8 +1,7 @@
 -- Inside and outside, by the edges that a ray to the right crosses: the even-odd rule of the textbooks.
 use Rattle.std.specs.Int.Signed.{le_z, lt_z}
 use Rattle.std.specs.Prelude.{◌≡◌, ◌⊎◌, ℕ, ◌%◌, ℤ, pos, negsuc, ◌+ℤ◌, ◌*ℤ◌, Bool, ◌&&◌, ◌||◌, if◌then◌else◌, List, [], ◌∷◌, count_by}
-use Rattle.plane.specs.Point.{Point, Triple, whole}
-use Rattle.plane.specs.Turn.{determinant}
+use Rattle.plane.specs.Prelude.{determinant, Point, Triple, whole}
 use Rattle.rings.specs.Edge.{Edge, IsOnSome, edges_of}
 
 -- the ray from p to the right crosses the edge upward: the edge begins at the height of p or below, ends above it, and

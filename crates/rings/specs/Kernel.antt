@@ -1,8 +1,7 @@
 -- The kernel of a polygon: the points that see all of it. Lee and Preparata 1979.
 use Rattle.std.specs.Prelude.{ℕ, ◌+◌, ◌<◌, List, length}
-use Rattle.plane.specs.Point.{IsPoint, Point, Triple, whole}
+use Rattle.plane.specs.Prelude.{IsPoint, IsRight, Point, Triple, whole}
 use Rattle.plane.specs.Region.{IsCornerList}
-use Rattle.plane.specs.Turn.{IsRight}
 use Rattle.rings.specs.Inside.{IsIn}
 use Rattle.rings.specs.Ring.{vertex}
 use Rattle.rings.specs.Sees.{Sees}

@@ -10,6 +10,7 @@ pub mod Full
 pub mod Inside
 pub mod Kernel
 pub mod Orientation
+pub mod Prelude
 pub mod Ring
 pub mod Sees
 pub mod Simple

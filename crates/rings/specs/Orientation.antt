@@ -1,8 +1,7 @@
 -- Which way round a ring runs, and its reflex vertices. By the shoelace formula of the textbooks.
 use Rattle.std.specs.Int.Signed.{lt_z}
 use Rattle.std.specs.Prelude.{ℕ, ◌+◌, ◌-◌, ℤ, pos, ◌+ℤ◌, ◌-ℤ◌, ◌*ℤ◌, ◌<ℤ◌, ◌⊎◌, Bool, List, [], ◌∷◌, length, reverse}
-use Rattle.plane.specs.Point.{Point, whole}
-use Rattle.plane.specs.Turn.{determinant}
+use Rattle.plane.specs.Prelude.{determinant, Point, whole}
 use Rattle.rings.specs.Edge.{Edge, edges_of}
 use Rattle.rings.specs.Ring.{vertex}
 

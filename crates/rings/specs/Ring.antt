@@ -1,7 +1,6 @@
 -- A ring is a list of whole-number points, the vertices of a polygon in the order of its boundary. As in the textbooks.
 use Rattle.std.specs.Prelude.{ℕ, ◌+◌, ◌%◌, List, length, slice_index_or, pos}
-use Rattle.plane.specs.Point.{Point, Triple, whole}
-use Rattle.plane.specs.Segment.{On}
+use Rattle.plane.specs.Prelude.{On, Point, Triple, whole}
 
 abbrev pub origin : Point
 origin = record { x = pos 0; y = pos 0 }

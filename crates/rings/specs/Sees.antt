@@ -1,7 +1,6 @@
 -- Points that see each other in a ring: the segment between them lies in it. Visibility as in the textbooks.
 use Rattle.std.specs.Prelude.{List}
-use Rattle.plane.specs.Point.{IsPoint, Point, Triple}
-use Rattle.plane.specs.Segment.{On}
+use Rattle.plane.specs.Prelude.{IsPoint, On, Point, Triple}
 use Rattle.rings.specs.Inside.{IsIn}
 
 -- every rational point on the segment from p to q is in the ring

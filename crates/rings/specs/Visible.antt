@@ -1,8 +1,7 @@
 -- What a point sees of the edges of a ring. Visibility polygons as in ElGindy and Avis 1981; parts of one point are this
 -- project's own.
 use Rattle.std.specs.Prelude.{◌≡◌, ◌⊎◌, ◌↔◌, ℕ, ◌+◌, ◌-◌, ◌<◌, ◌≤◌, List, length, map, reverse, slice_index_or}
-use Rattle.plane.specs.Point.{IsPoint, Point, Triple, whole}
-use Rattle.plane.specs.Segment.{On}
+use Rattle.plane.specs.Prelude.{IsPoint, On, Point, Triple, whole}
 use Rattle.rings.specs.Inside.{IsIn}
 use Rattle.rings.specs.Ring.{IsOnEdge, origin, vertex}
 use Rattle.rings.specs.Sees.{Sees}

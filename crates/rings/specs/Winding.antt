@@ -1,8 +1,7 @@
 -- Rings that run once round, counterclockwise or clockwise, by their winding numbers and their area. This project's own words
 -- for what the textbooks show of simple polygons.
 use Rattle.std.specs.Prelude.{◌≡◌, ◌⊎◌, ℕ, ◌<◌, ℤ, pos, negsuc, ◌<ℤ◌, List, length}
-use Rattle.plane.specs.Order.{IsBefore}
-use Rattle.plane.specs.Point.{IsPoint, Point, Triple}
+use Rattle.plane.specs.Prelude.{IsBefore, IsPoint, Point, Triple}
 use Rattle.rings.specs.Edge.{Edge, IsOnSome, edges_of}
 use Rattle.rings.specs.Inside.{winding}
 use Rattle.rings.specs.Orientation.{doubled_area, turn_at}

@@ -6,6 +6,8 @@
 #[cfg(test)]
 mod answers;
 #[cfg(test)]
+mod asked_again;
+#[cfg(test)]
 mod chains;
 #[cfg(test)]
 mod counted;
@@ -33,6 +35,8 @@ mod runs;
 mod scripts;
 #[cfg(test)]
 mod std_streams;
+#[cfg(test)]
+mod strange_records;
 #[cfg(test)]
 mod streams;
 #[cfg(test)]

@@ -1,4 +1,4 @@
-// Records that are refused, each with its cause, and strange ones that are not.
+// Records that are refused, each with its cause.
 #[rattlefmt::skip]
 pub(crate) const REFUSALS: &str = "
 # causes of refusals, in turn
@@ -228,28 +228,4 @@ bad,index,2
 bad,index,1
 bad,index,1
 path,2,4,0,0,4
-
-# an open quote
-\"frob,1=
-bad,word
-
-# a number in quotes
-polygon,0,0,4,0,4,2,2,2,2,4,0,4
-inside,\"1\",1
-=
-polygon,6
-inside
-
-# signs and blanks in numbers
-polygon,0,0,4,0,4,2,2,2,2,4,0,4
-inside,+,1
-inside,--1,1
-inside,1 1,1
-inside,-0,1
-=
-polygon,6
-bad,number,1
-bad,number,1
-bad,number,1
-edge
 ";

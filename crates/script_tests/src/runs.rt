@@ -4,6 +4,7 @@ ghost use Rattle.std.specs.Prelude.{◌≤◌};
 use crate::paths::PATHS;
 use crate::places::PLACES;
 use crate::refusals::REFUSALS;
+use crate::strange_records::STRANGE;
 use crate::versions::VERSIONS;
 use crate::views::VIEWS;
 use exact_plane::Memory;
@@ -101,7 +102,8 @@ fn each_script_is_answered(rt: HostRuntime) -> Result<(), Fail> {
         (PLACES, 16),
         (PATHS, 19),
         (VIEWS, 18),
-        (REFUSALS, 17),
+        (REFUSALS, 14),
+        (STRANGE, 3),
         (VERSIONS, 15),
     ] {
         all_answered(&rt, rt.alloc(), table, count)?;

@@ -4,8 +4,7 @@ use Rattle.std.proofs.lemmas.Int.{ints}
 use Rattle.integer_algebra.proofs.SignSteps.{at_least_unless, at_most_unless, negative_not_zero, not_both_positive}
 use Rattle.integer_algebra.proofs.SignSteps.{not_negative_of_opposite, opposite_not_positive, positive_of_opposite}
 use Rattle.plane.specs.Cone.{IsInCone}
-use Rattle.plane.specs.Point.{Point, Triple, whole}
-use Rattle.plane.specs.Turn.{IsStraight}
+use Rattle.plane.specs.Prelude.{IsStraight, Point, Triple, whole}
 use Rattle.rings.specs.Bend.{AreNeighbours, IsBend, IsReflexVertex}
 use Rattle.funnels.specs.Fanned.{turning}
 

@@ -16,18 +16,12 @@ use Rattle.integer_algebra.proofs.Signs.{mul_nonpositives}
 use Rattle.plane.proofs.Nearness.{toward, toward_is_point, toward_on}
 use Rattle.plane.proofs.Points.{whole_is_point, same_whole}
 use Rattle.plane.proofs.Turns.{determinant_swap_first}
-use Rattle.plane.specs.Point.{Point, Triple, whole, IsSame}
-use Rattle.plane.specs.Segment.{On}
-use Rattle.plane.specs.Turn.{IsRight}
-use Rattle.rings.specs.Bend.{AreNeighbours, IsBend}
-use Rattle.rings.specs.Orientation.{IsCounterclockwise, IsReflex, turn_at}
-use Rattle.rings.specs.Ring.{vertex}
-use Rattle.rings.specs.Simple.{IsSimple}
+use Rattle.plane.specs.Prelude.{IsRight, IsSame, On, Point, Triple, whole}
+use Rattle.rings.specs.Prelude.{AreNeighbours, IsBend, IsCounterclockwise, IsReflex, IsSimple, turn_at, vertex}
 use Rattle.ring_laws.proofs.Triangles.{left_of, left_of_is_left}
 use Rattle.ring_laws.proofs.Vertices.{beside_differs, vertex_beside}
 use Rattle.ring_laws.proofs.Kernels.{convex_vertex}
-use Rattle.meshes.specs.Fits.{Fits, IsInTri}
-use Rattle.meshes.specs.Side.{tri_at}
+use Rattle.meshes.specs.Prelude.{Fits, IsInTri, tri_at}
 use Rattle.meshes.specs.declared.tri.Tri.{Tri}
 use Rattle.funnels.proofs.Bends.BendTurnings.{bend_of_turnings, turnings_of_bend}
 use Rattle.funnels.proofs.Bends.FanCones.{cone_of_fan, cone_grows}

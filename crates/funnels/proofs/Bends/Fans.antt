@@ -9,8 +9,7 @@ use Rattle.integer_algebra.proofs.Laws.{mul_comm}
 use Rattle.integer_algebra.proofs.SignSteps.{weak, not_both}
 use Rattle.integer_algebra.proofs.Signs.{factor_positive, mul_nonpositive, mul_positive, is_negative, is_positive, is_zero, sign}
 use Rattle.plane.proofs.Segments.{on_last_end}
-use Rattle.plane.specs.Point.{IsSame, Point, Triple, whole}
-use Rattle.plane.specs.Segment.{On}
+use Rattle.plane.specs.Prelude.{IsSame, On, Point, Triple, whole}
 use Rattle.funnels.proofs.Bends.FanSigns.{Relation, relation, right_of_third, all_in_line, keeps_left, turns_back}
 use Rattle.funnels.proofs.Bends.SameRays.{level_is_vertex, ray_ahead, turning_differs}
 use Rattle.funnels.proofs.Bends.Turnings.{turning_four}

@@ -3,11 +3,7 @@ use Rattle.std.proofs.Common.{◌≡◌, inl, inr, sym, subst, ap, ◌∙◌, �
 use Rattle.std.proofs.lemmas.Bool.{cases_lt}
 use Rattle.std.proofs.lemmas.List.{get_or_append_left, get_or_push, length-append}
 use Rattle.plane.specs.Point.{Point, whole}
-use Rattle.rings.specs.Bend.{IsBend}
-use Rattle.rings.specs.Chain.{IsBentChain, IsInner, point_at}
-use Rattle.rings.specs.Inside.{IsIn}
-use Rattle.rings.specs.Ring.{origin}
-use Rattle.rings.specs.Sees.{Sees}
+use Rattle.rings.specs.Prelude.{IsBend, IsBentChain, IsIn, IsInner, origin, point_at, Sees}
 
 module _ (c : List Point) (v y : Point) (last : point_at c (length c - 1) ≡ v) where
   -- ---- places of the longer list

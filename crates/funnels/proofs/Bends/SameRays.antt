@@ -16,12 +16,8 @@ use Rattle.plane.proofs.Points.{whole_is_point}
 use Rattle.plane.proofs.Segments.{same_without_last, ray_on_left, ray_on_right, same_straight}
 use Rattle.plane.proofs.Turns.{determinant_same_ends, combination_of, determinant_along, four_triples_in_W, four_triples_in_X}
 use Rattle.plane.proofs.Turns.{four_triples_in_Y}
-use Rattle.plane.specs.Point.{IsPoint, IsSame, Point, Triple, whole}
-use Rattle.plane.specs.Segment.{On}
-use Rattle.plane.specs.Turn.{determinant, IsStraight}
-use Rattle.rings.specs.Bend.{AreNeighbours}
-use Rattle.rings.specs.Ring.{vertex}
-use Rattle.rings.specs.Simple.{IsSimple}
+use Rattle.plane.specs.Prelude.{determinant, IsPoint, IsSame, IsStraight, On, Point, Triple, whole}
+use Rattle.rings.specs.Prelude.{AreNeighbours, IsSimple, vertex}
 use Rattle.ring_laws.proofs.Vertices.{beside_next, neighbours_not_on_ray}
 use Rattle.funnels.proofs.Bends.Turnings.{turning_swap, turning_not}
 use Rattle.funnels.specs.Fanned.{turning}

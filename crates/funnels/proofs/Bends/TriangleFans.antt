@@ -10,20 +10,16 @@ use Rattle.integer_algebra.proofs.Signs.{is_negative, is_positive, is_zero, sign
 use Rattle.plane.proofs.Points.{same_whole, whole_is_point}
 use Rattle.plane.proofs.Segments.{on_first_end, on_last_end}
 use Rattle.plane.proofs.Turns.{determinant_swap_last, determinant_shift}
-use Rattle.plane.specs.Point.{IsPoint, IsSame, Point, Triple, whole}
-use Rattle.plane.specs.Segment.{On}
-use Rattle.plane.specs.Turn.{IsLeft}
+use Rattle.plane.specs.Prelude.{IsLeft, IsPoint, IsSame, On, Point, Triple, whole}
 use Rattle.rings.proofs.Simple.{apart_of_simple}
-use Rattle.rings.specs.Bend.{AreNeighbours}
-use Rattle.rings.specs.Ring.{vertex}
+use Rattle.rings.specs.Prelude.{AreNeighbours, vertex}
 use Rattle.ring_laws.proofs.Triangles.{left_at_last}
 use Rattle.ring_laws.proofs.Vertices.{neighbours_differ}
 use Rattle.meshes.proofs.Parts.{opposite}
 use Rattle.meshes.proofs.Sides.{ends_below, piece_points_all}
 use Rattle.meshes.proofs.Sight.{not_right_of_side, sees_in_triangle}
 use Rattle.meshes.proofs.TreeLeaves.{turns_left}
-use Rattle.meshes.specs.Fits.{Fits, piece_points, IsInTri}
-use Rattle.meshes.specs.Side.{HasCorner, HasSide, tri_at}
+use Rattle.meshes.specs.Prelude.{Fits, HasCorner, HasSide, IsInTri, piece_points, tri_at}
 use Rattle.meshes.specs.declared.tri.Tri.{Tri}
 use Rattle.funnels.proofs.Bends.Fans.{fanned_more, fanned_within, last_step_to_within}
 use Rattle.funnels.proofs.Bends.SameRays.{level_is_vertex, ray_ahead, ray_behind}

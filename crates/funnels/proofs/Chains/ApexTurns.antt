@@ -18,10 +18,7 @@ use Rattle.plane.proofs.Regions.{four_beside}
 use Rattle.plane.proofs.Segments.{on_is_straight}
 use Rattle.plane.proofs.Turns.{determinant_swap_first, areas_add, combination_of, determinant_same_ends, determinant_swap_last}
 use Rattle.plane.proofs.Turns.{straight_swap_first, weights_positive}
-use Rattle.plane.specs.Point.{Point, whole}
-use Rattle.plane.specs.Segment.{On}
-use Rattle.plane.specs.Triangle.{height_over}
-use Rattle.plane.specs.Turn.{IsLeft, IsRight, IsStraight, determinant}
+use Rattle.plane.specs.Prelude.{determinant, height_over, IsLeft, IsRight, IsStraight, On, Point, whole}
 use Rattle.rings.specs.Chain.{point_at}
 use Rattle.funnels.proofs.Bends.{turning_along, turning_four, turning_straight}
 use Rattle.funnels.proofs.Funnels.{level, lower, straight_on_line, left_of_apex, right_of_apex, window_of_reached, not_negative}

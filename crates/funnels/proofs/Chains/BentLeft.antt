@@ -2,8 +2,7 @@
 use Rattle.std.proofs.Common.{◌≡◌, refl, inl, inr, sym, subst, Bool, false, List, [], ◌∷◌, ◌++◌, length, drop, ℕ, ◌+◌, ◌-◌, ◌<◌, max, arith}
 use Rattle.std.proofs.lemmas.Bool.{cases_lt}
 use Rattle.plane.specs.Point.{Point, whole}
-use Rattle.rings.specs.Bend.{IsBend}
-use Rattle.rings.specs.Chain.{IsBentChain, point_at}
+use Rattle.rings.specs.Prelude.{IsBend, IsBentChain, point_at}
 use Rattle.funnels.proofs.Chains.ApexTurns.{TurnsBack, back_of_right, edge_kept, side_by, turns_of_side}
 use Rattle.funnels.proofs.Chains.WaysBefore.{chain_right, IsWayBefore, before_apex_right, before_last_right}
 use Rattle.funnels.proofs.Funnels.{by_points, left_new_at, left_old_at, left_on_left, left_on_right, next_left_length, next_left_old, right_of_way}

@@ -2,8 +2,7 @@
 use Rattle.std.proofs.Common.{◌≡◌, refl, inl, inr, sym, subst, Bool, true, List, [], ◌∷◌, ◌++◌, length, take, ℕ, ◌+◌, ◌-◌, ◌<◌, ◌≤◌, min, arith}
 use Rattle.std.proofs.lemmas.Bool.{cases_lt}
 use Rattle.plane.specs.Point.{Point, whole}
-use Rattle.rings.specs.Bend.{IsBend}
-use Rattle.rings.specs.Chain.{IsBentChain, point_at}
+use Rattle.rings.specs.Prelude.{IsBend, IsBentChain, point_at}
 use Rattle.funnels.proofs.Chains.ApexTurns.{TurnsBack, back_of_left, edge_kept, side_by, turns_of_side}
 use Rattle.funnels.proofs.Chains.WaysBefore.{chain_left, IsWayBefore, before_apex_left, before_last_left}
 use Rattle.funnels.proofs.Funnels.{by_points, left_of_way, next_right_last, next_right_length, next_right_old, right_new_at, right_old_at}

@@ -11,16 +11,10 @@ use Rattle.integer_algebra.proofs.Signs.{is_negative, is_positive, is_zero, sign
 use Rattle.plane.proofs.Points.{same_whole, whole_is_point}
 use Rattle.plane.proofs.Segments.{on_reversed}
 use Rattle.plane.proofs.Turns.{determinant_shift, determinant_swap_first}
-use Rattle.plane.specs.Point.{IsSame, Point, whole}
-use Rattle.plane.specs.Triangle.{height_over}
-use Rattle.plane.specs.Turn.{IsLeft, IsRight}
-use Rattle.rings.specs.Bend.{IsBend}
-use Rattle.rings.specs.Chain.{point_at}
-use Rattle.rings.specs.Ring.{vertex}
-use Rattle.rings.specs.Sees.{Sees}
+use Rattle.plane.specs.Prelude.{height_over, IsLeft, IsRight, IsSame, Point, whole}
+use Rattle.rings.specs.Prelude.{IsBend, point_at, Sees, vertex}
 use Rattle.meshes.proofs.TreeLeaves.{turns_left}
-use Rattle.meshes.specs.Fits.{Fits, IsInTri}
-use Rattle.meshes.specs.Side.{tri_at, HasSide}
+use Rattle.meshes.specs.Prelude.{Fits, HasSide, IsInTri, tri_at}
 use Rattle.meshes.specs.declared.tri.Tri.{Tri}
 use Rattle.funnels.proofs.Bends.{AreOnRay, bend_of_fan, corner_in_ring, corner_turns, grown_bend, grown_turning, in_angle, last_step}
 use Rattle.funnels.proofs.Bends.{on_after, on_ray_back, turning_differs_first, turning_swap, turning_to_ray, wider_bend, fan_begins}

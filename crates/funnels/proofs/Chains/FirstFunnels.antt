@@ -4,18 +4,13 @@ use Rattle.std.proofs.Common.{◌≡◌, inl, inr, subst, List, [], ◌∷◌, l
 use Rattle.std.proofs.Common.{true, false, pos, ◌≤ℤ◌}
 use Rattle.plane.proofs.Points.{whole_is_point}
 use Rattle.plane.proofs.Segments.{on_first_end}
-use Rattle.plane.specs.Point.{IsPoint, Point, Triple, whole}
-use Rattle.plane.specs.Segment.{On}
-use Rattle.plane.specs.Turn.{determinant}
-use Rattle.rings.specs.Chain.{IsBentChain, point_at}
-use Rattle.rings.specs.Inside.{IsIn}
-use Rattle.rings.specs.Ring.{vertex}
+use Rattle.plane.specs.Prelude.{determinant, IsPoint, On, Point, Triple, whole}
+use Rattle.rings.specs.Prelude.{IsBentChain, IsIn, point_at, vertex}
 use Rattle.ring_laws.proofs.Triangles.{between_in_triangle}
 use Rattle.meshes.proofs.Sides.{left_apart}
 use Rattle.meshes.proofs.Sight.{sees_in_triangle}
 use Rattle.meshes.proofs.TreeLeaves.{turns_left}
-use Rattle.meshes.specs.Fits.{Fits, IsInTri}
-use Rattle.meshes.specs.Side.{HasSide, tri_at}
+use Rattle.meshes.specs.Prelude.{Fits, HasSide, IsInTri, tri_at}
 use Rattle.meshes.specs.declared.tri.Tri.{Tri}
 use Rattle.funnels.proofs.Bends.{first_end_in, last_end_in, fan_begins_in, in_angle}
 use Rattle.funnels.proofs.Chains.LastPoints.{no_last}

@@ -4,10 +4,7 @@ use Rattle.std.proofs.lemmas.List.{get_or_append_left, get_or_push, length-appen
 use Rattle.plane.proofs.Points.{whole_is_point}
 use Rattle.plane.proofs.Segments.{on_last_end}
 use Rattle.plane.specs.Point.{Point, whole}
-use Rattle.rings.specs.Bend.{IsBend}
-use Rattle.rings.specs.Chain.{IsBentChain, point_at}
-use Rattle.rings.specs.Ring.{origin}
-use Rattle.rings.specs.Sees.{Sees}
+use Rattle.rings.specs.Prelude.{IsBend, IsBentChain, origin, point_at, Sees}
 use Rattle.funnels.proofs.Bends.{chain_more}
 use Rattle.funnels.specs.OpenFunnel.{IsLastOf}
 

@@ -8,16 +8,10 @@ use Rattle.std.proofs.lemmas.Bool.{cases_lt}
 use Rattle.integer_algebra.proofs.SignSteps.{at_least_unless, at_most_unless, opposite_not_positive, turned_not_negative}
 use Rattle.plane.proofs.Points.{whole_is_point}
 use Rattle.plane.proofs.Turns.{determinant_swap_first}
-use Rattle.plane.specs.Point.{Point, whole}
-use Rattle.plane.specs.Segment.{On}
-use Rattle.plane.specs.Triangle.{height_over}
-use Rattle.rings.specs.Bend.{IsBend}
-use Rattle.rings.specs.Chain.{point_at}
-use Rattle.rings.specs.Ring.{vertex}
-use Rattle.rings.specs.Sees.{Sees}
+use Rattle.plane.specs.Prelude.{height_over, On, Point, whole}
+use Rattle.rings.specs.Prelude.{IsBend, point_at, Sees, vertex}
 use Rattle.meshes.proofs.Sight.{triangle_in_ring}
-use Rattle.meshes.specs.Fits.{Fits, IsInTri}
-use Rattle.meshes.specs.Side.{HasSide, tri_at}
+use Rattle.meshes.specs.Prelude.{Fits, HasSide, IsInTri, tri_at}
 use Rattle.meshes.specs.declared.tri.Tri.{Tri}
 use Rattle.funnels.proofs.Bends.{wider_bend, last_end_in}
 use Rattle.funnels.proofs.Chains.ApexTurns.{back_of_left, back_of_right, behind_left, behind_right, not_ahead_of_left, not_behind_right}

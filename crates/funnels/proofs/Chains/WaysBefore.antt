@@ -5,9 +5,7 @@ use Rattle.std.proofs.Common.{refl, length, max}
 use Rattle.std.proofs.lemmas.Bool.{cases_lt}
 use Rattle.std.proofs.lemmas.List.{append-nil, append_assoc}
 use Rattle.plane.specs.Point.{Point, whole}
-use Rattle.rings.specs.Bend.{IsBend}
-use Rattle.rings.specs.Chain.{point_at, IsBentChain}
-use Rattle.rings.specs.Sees.{Sees}
+use Rattle.rings.specs.Prelude.{IsBend, IsBentChain, point_at, Sees}
 use Rattle.funnels.proofs.Chains.LastPoints.{last_of_more, goes_on}
 use Rattle.funnels.specs.Funnel.{IsFunnel}
 use Rattle.funnels.specs.OpenFunnel.{IsLastOf, left_behind, right_behind, IsBentFunnel, IsOpenSight}

@@ -9,20 +9,13 @@ use Rattle.integer_algebra.proofs.Signs.{is_negative, is_positive, is_zero, sign
 use Rattle.plane.proofs.Points.{whole_is_point}
 use Rattle.plane.proofs.Segments.{on_first_end, on_last_end, on_reversed}
 use Rattle.plane.proofs.Turns.{determinant_swap_first}
-use Rattle.plane.specs.Point.{IsPoint, Point, Triple, whole}
-use Rattle.plane.specs.Segment.{On}
-use Rattle.plane.specs.Triangle.{height_over}
-use Rattle.plane.specs.Turn.{IsLeft, IsRight, determinant}
-use Rattle.rings.specs.Chain.{point_at}
-use Rattle.rings.specs.Inside.{IsIn}
-use Rattle.rings.specs.Ring.{vertex}
-use Rattle.rings.specs.Sees.{Sees}
+use Rattle.plane.specs.Prelude.{determinant, height_over, IsLeft, IsPoint, IsRight, On, Point, Triple, whole}
+use Rattle.rings.specs.Prelude.{IsIn, point_at, Sees, vertex}
 use Rattle.ring_laws.proofs.Triangles.{on_first_side, between_in_triangle}
 use Rattle.meshes.proofs.Parts.{opposite}
 use Rattle.meshes.proofs.Sight.{sees_on, sees_within}
 use Rattle.meshes.proofs.TreeLeaves.{closed_of_sides, next_corner, turns_left}
-use Rattle.meshes.specs.Fits.{IsInTri}
-use Rattle.meshes.specs.Side.{HasSide}
+use Rattle.meshes.specs.Prelude.{HasSide, IsInTri}
 use Rattle.meshes.specs.declared.tri.Tri.{Tri}
 use Rattle.funnels.proofs.Funnels.{crossing_in_window, IsEnd, flat_apex, IsFlat, IsOnDiagonal, flat_off_apex, on_at_first, on_at_last}
 use Rattle.funnels.proofs.Funnels.{edge_after, edge_before, in_window_of, window_of_reached, not_negative, left_place, new_edge_left}

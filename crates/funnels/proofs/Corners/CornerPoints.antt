@@ -6,14 +6,12 @@ use Rattle.std.specs.List.{Contains}
 use Rattle.integer_algebra.proofs.SignSteps.{at_least_unless}
 use Rattle.integer_algebra.proofs.Signs.{lt_or_le}
 use Rattle.plane.proofs.Points.{whole_is_point}
-use Rattle.plane.specs.Point.{Point, whole}
-use Rattle.plane.specs.Turn.{determinant}
+use Rattle.plane.specs.Prelude.{determinant, Point, whole}
 use Rattle.rings.specs.Ring.{vertex}
 use Rattle.ring_laws.proofs.Triangles.{on_first_side, on_second_side, on_third_side}
 use Rattle.meshes.proofs.Parts.{inside_off_edges, vertex_on_ring, paved}
 use Rattle.meshes.proofs.Sides.{corners_differ}
-use Rattle.meshes.specs.Fits.{FitsPiece, IsInTri, IsStrictlyInTri, Fits}
-use Rattle.meshes.specs.Side.{HasCorner, HasSide, tri_at}
+use Rattle.meshes.specs.Prelude.{Fits, FitsPiece, HasCorner, HasSide, IsInTri, IsStrictlyInTri, tri_at}
 use Rattle.meshes.specs.declared.tri.Tri.{Tri}
 use Rattle.funnels.proofs.Corners.RingTurns.{end_of_its_side}
 use Rattle.funnels.specs.Corner.{HasCornerOn}

@@ -14,19 +14,14 @@ use Rattle.plane.proofs.Points.{same_whole, whole_is_point}
 use Rattle.plane.proofs.Segments.{on_is_straight, on_reversed, on_same_point, on_last_end}
 use Rattle.plane.proofs.Turns.{determinant_shift, determinant_swap_last}
 use Rattle.plane.specs.Cone.{IsInCone}
-use Rattle.plane.specs.Point.{IsPoint, IsSame, Point, Triple, whole}
-use Rattle.plane.specs.Segment.{On}
-use Rattle.plane.specs.Turn.{IsLeft}
-use Rattle.rings.specs.Bend.{AreNeighbours, IsBend}
-use Rattle.rings.specs.Orientation.{IsReflex, turn_at}
-use Rattle.rings.specs.Ring.{vertex}
+use Rattle.plane.specs.Prelude.{IsLeft, IsPoint, IsSame, On, Point, Triple, whole}
+use Rattle.rings.specs.Prelude.{AreNeighbours, IsBend, IsReflex, turn_at, vertex}
 use Rattle.ring_laws.proofs.Diagonals.{AreBoth}
 use Rattle.ring_laws.proofs.Vertices.{neighbour_is}
 use Rattle.meshes.proofs.Parts.{side_in, paved, one_vertex, side_numbers}
 use Rattle.meshes.proofs.Sides.{edge_or_not, ends_below}
 use Rattle.meshes.proofs.TreeLeaves.{side_is_one, turns_left}
-use Rattle.meshes.specs.Fits.{Fits, IsPieceEdge, IsSideOfTwo}
-use Rattle.meshes.specs.Side.{HasSideBetween, tri_at, HasSide}
+use Rattle.meshes.specs.Prelude.{Fits, HasSide, HasSideBetween, IsPieceEdge, IsSideOfTwo, tri_at}
 use Rattle.meshes.specs.declared.tri.Tri.{Tri}
 use Rattle.funnels.proofs.Bends.{AreOnRay, corner_turns, in_angle, turning_from_ray, turning_to_ray, turning_four, in_piece}
 use Rattle.funnels.proofs.Bends.{neighbour_differs, not_inside, on_after, on_before, corner_in_ring, not_ahead_of_itself, not_reflex}

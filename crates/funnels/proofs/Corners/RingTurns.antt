@@ -8,20 +8,14 @@ use Rattle.std.proofs.lemmas.List.{get_or-map}
 use Rattle.std.specs.List.{Contains, range_with_len}
 use Rattle.std.specs.Prelude.{slice_index_or}
 use Rattle.plane.proofs.Turns.{determinant_shift, determinant_swap_first}
-use Rattle.plane.specs.Point.{Point, whole}
-use Rattle.plane.specs.Segment.{On}
+use Rattle.plane.specs.Prelude.{On, Point, whole}
 use Rattle.rings.proofs.Simple.{apart_of_simple}
 use Rattle.rings.proofs.Vertices.{has_edge_at}
-use Rattle.rings.specs.Bend.{AreNeighbours}
-use Rattle.rings.specs.Edge.{HasEdge, edge, edges_of, Edge}
-use Rattle.rings.specs.Orientation.{turn_at}
-use Rattle.rings.specs.Ring.{origin, vertex}
-use Rattle.rings.specs.Simple.{IsSimple}
+use Rattle.rings.specs.Prelude.{AreNeighbours, Edge, edge, edges_of, HasEdge, IsSimple, origin, turn_at, vertex}
 use Rattle.ring_laws.proofs.Vertices.{neighbour_is, neighbours_not_on_ray, beside_differs, beside_next, edges_at, vertex_beside}
 use Rattle.meshes.proofs.Parts.{one_vertex, shared_of, vertex_is_end, end_of_side, parted, side_numbers, paved}
 use Rattle.meshes.proofs.Sides.{edge_of_piece, edge_or_not, length_points, vertex_of_piece, ring_edge_is}
-use Rattle.meshes.specs.Fits.{FitsPiece, IsPieceEdge, piece_points}
-use Rattle.meshes.specs.Side.{HasSide, tri_at}
+use Rattle.meshes.specs.Prelude.{FitsPiece, HasSide, IsPieceEdge, piece_points, tri_at}
 use Rattle.meshes.specs.declared.tri.Tri.{Tri}
 use Rattle.funnels.specs.Fanned.{turning}
 

@@ -2,15 +2,11 @@
 use Rattle.std.proofs.Common.{◌≡◌, sym, subst, ◌∙◌, ℕ, suc, ◌+◌, ◌-◌, ◌<◌, List, length, get_or, take, arith}
 use Rattle.std.proofs.lemmas.List.{get_or-take, length-take-le}
 use Rattle.plane.specs.Point.{IsPoint, Point, Triple, whole}
-use Rattle.rings.specs.Bend.{IsBend}
-use Rattle.rings.specs.Chain.{IsBentChain, point_at}
-use Rattle.rings.specs.Inside.{IsIn}
-use Rattle.rings.specs.Sees.{Sees}
+use Rattle.rings.specs.Prelude.{IsBend, IsBentChain, IsIn, point_at, Sees}
 use Rattle.meshes.proofs.Sides.{piece_points_all}
-use Rattle.meshes.specs.Fits.{Fits, IsInTri}
-use Rattle.meshes.specs.Laws.{walk_tri}
-use Rattle.meshes.specs.Side.{IsWalk, IsWalkBetween, tri_at}
+use Rattle.meshes.specs.Prelude.{Fits, IsInTri, IsWalk, IsWalkBetween, tri_at}
 use Rattle.meshes.specs.declared.tri.Tri.{Tri}
+use Rattle.meshes.specs.Laws.{walk_tri}
 use Rattle.funnels.proofs.DeadEnds.WalkParts.{first_with, walk_front}
 
 -- ---- bends

@@ -11,17 +11,14 @@ use Rattle.plane.proofs.Lists.{in_range}
 use Rattle.plane.proofs.Points.{same_whole, whole_is_point}
 use Rattle.plane.proofs.Segments.{on_last_end, on_reversed, on_same_point, on_first_end}
 use Rattle.plane.specs.Point.{Point, Triple, whole}
-use Rattle.rings.specs.Bend.{IsBend}
-use Rattle.rings.specs.Ring.{vertex}
-use Rattle.rings.specs.Sees.{Sees}
+use Rattle.rings.specs.Prelude.{IsBend, Sees, vertex}
 use Rattle.ring_laws.proofs.Diagonals.{AreBoth}
 use Rattle.meshes.proofs.Joins.{between_back}
 use Rattle.meshes.proofs.Parts.{side_in, paved}
 use Rattle.meshes.proofs.Sight.{sleeve_law}
-use Rattle.meshes.specs.Fits.{Fits, IsInTri}
-use Rattle.meshes.specs.Laws.{walk_tri, CrossesSide}
-use Rattle.meshes.specs.Side.{IsWalk, HasSideBetween, tri_at, IsWalkBetween}
+use Rattle.meshes.specs.Prelude.{Fits, HasSideBetween, IsInTri, IsWalk, IsWalkBetween, tri_at}
 use Rattle.meshes.specs.declared.tri.Tri.{Tri}
+use Rattle.meshes.specs.Laws.{walk_tri, CrossesSide}
 use Rattle.funnels.proofs.Bends.{AreOnRay, in_angle}
 use Rattle.funnels.proofs.Corners.{within_on_ray, side_at_corner, within_of_seen, at_corner, corner_of, no_bend}
 use Rattle.funnels.proofs.DeadEnds.CrossedSides.{some_crossed, crossed_back}

@@ -2,16 +2,14 @@
 use Rattle.std.proofs.Common.{◌≡◌, ◌⊎◌, inl, inr, sym, subst, ◌∙◌, Bool, true, false, ℕ, ◌+◌, ◌<◌, List, length, get_or, arith}
 use Rattle.std.proofs.lemmas.Bool.{cases_lt}
 use Rattle.std.specs.List.{range_with_len}
-use Rattle.plane.specs.Point.{Point, whole}
-use Rattle.plane.specs.Turn.{IsLeft}
+use Rattle.plane.specs.Prelude.{IsLeft, Point, whole}
 use Rattle.rings.specs.Ring.{vertex}
 use Rattle.meshes.proofs.Joins.{between_back}
 use Rattle.meshes.proofs.Sides.{fitting_sides, edge_or_not}
 use Rattle.meshes.proofs.TreeLeaves.{next_corner, not_two_shared, side_is_one}
-use Rattle.meshes.specs.Fits.{Fits}
-use Rattle.meshes.specs.Laws.{CrossesSide, walk_tri}
-use Rattle.meshes.specs.Side.{HasSide, HasSideBetween, IsWalk}
+use Rattle.meshes.specs.Prelude.{Fits, HasSide, HasSideBetween, IsWalk}
 use Rattle.meshes.specs.declared.tri.Tri.{Tri}
+use Rattle.meshes.specs.Laws.{CrossesSide, walk_tri}
 use Rattle.funnels.proofs.Corners.{corner_after, corner_before}
 use Rattle.funnels.proofs.Vertices.{IsSharedSide}
 use Rattle.funnels.specs.Corner.{HasCornerOn}

@@ -7,12 +7,10 @@ use Rattle.std.proofs.lemmas.Bool.{cases_lt}
 use Rattle.std.proofs.lemmas.List.{get_or-take, length-take-le}
 use Rattle.plane.proofs.Points.{whole_is_point}
 use Rattle.plane.specs.Point.{Point, whole}
-use Rattle.rings.specs.Chain.{point_at, IsBentChain}
-use Rattle.rings.specs.Ring.{vertex}
-use Rattle.meshes.specs.Fits.{Fits, IsInTri}
-use Rattle.meshes.specs.Laws.{CrossesSide, walk_tri}
-use Rattle.meshes.specs.Side.{HasSideBetween, IsWalk, tri_at, HasCorner}
+use Rattle.rings.specs.Prelude.{IsBentChain, point_at, vertex}
+use Rattle.meshes.specs.Prelude.{Fits, HasCorner, HasSideBetween, IsInTri, IsWalk, tri_at}
 use Rattle.meshes.specs.declared.tri.Tri.{Tri}
+use Rattle.meshes.specs.Laws.{CrossesSide, walk_tri}
 use Rattle.funnels.proofs.Corners.{side_corners}
 use Rattle.funnels.proofs.DeadEnds.ChainBends.{IsBentAt, IsFrontTo, bent_at, front_to, some_triangle}
 use Rattle.funnels.proofs.DeadEnds.CornersReached.{GoesOnAt, passes}

@@ -2,7 +2,7 @@
 use Rattle.std.proofs.Common.{◌≡◌, inl, inr, refl, sym, ap, subst, ◌∙◌, ℕ, suc, ◌-◌, ◌<◌, List, [], ◌∷◌, ◌++◌, length, get_or, drop, arith}
 use Rattle.std.proofs.lemmas.Bool.{cases_eq}
 use Rattle.meshes.proofs.Walks.{IsNew, IsPath, IsPlace, IsTreeOn, Touch, last_place, new_front, new_or_not, path_of_walk, share_back, tree_of_walks}
-use Rattle.meshes.specs.Side.{IsTree, IsWalk, tri_at}
+use Rattle.meshes.specs.Prelude.{IsTree, IsWalk, tri_at}
 use Rattle.meshes.specs.declared.tri.Tri.{Tri}
 
 -- the list begins with x

@@ -4,17 +4,14 @@ use Rattle.std.proofs.Common.{◌≡◌, ◌⊎◌, inl, inr, sym, subst, ap, �
 use Rattle.std.proofs.Common.{◌-◌}
 use Rattle.std.proofs.lemmas.Bool.{cases_lt}
 use Rattle.std.proofs.lemmas.List.{get_or-drop, get_or-take, length-drop, length-take-le}
-use Rattle.plane.specs.Point.{Point, Triple, IsPoint, whole}
-use Rattle.plane.specs.Segment.{Meet}
-use Rattle.rings.specs.Ring.{vertex}
-use Rattle.rings.specs.Sees.{Sees}
+use Rattle.plane.specs.Prelude.{IsPoint, Meet, Point, Triple, whole}
+use Rattle.rings.specs.Prelude.{Sees, vertex}
 use Rattle.ring_laws.proofs.Triangles.{in_or_not}
 use Rattle.meshes.proofs.Sight.{sleeve_law}
 use Rattle.meshes.proofs.Walks.{Touch}
-use Rattle.meshes.specs.Fits.{IsInTri, Fits}
-use Rattle.meshes.specs.Laws.{CrossesSide, walk_tri}
-use Rattle.meshes.specs.Side.{HasSideBetween, IsWalk, tri_at}
+use Rattle.meshes.specs.Prelude.{Fits, HasSideBetween, IsInTri, IsWalk, tri_at}
 use Rattle.meshes.specs.declared.tri.Tri.{Tri}
+use Rattle.meshes.specs.Laws.{CrossesSide, walk_tri}
 use Rattle.funnels.specs.Corner.{IsFirstWith}
 
 -- ---- the front and the rest

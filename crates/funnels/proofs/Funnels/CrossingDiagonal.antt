@@ -18,10 +18,7 @@ use Rattle.plane.proofs.Segments.{on_reversed}
 use Rattle.plane.proofs.Turns.{areas_add, determinant_same_ends, determinant_same_last, determinant_swap_ends, four_triples_in_X}
 use Rattle.plane.proofs.Turns.{four_triples_in_Y, straight_swap_first, determinant_shift, determinant_swap_last, four_triples_in_W}
 use Rattle.plane.proofs.Turns.{determinant_swap_first, straight_shift_back, straight_swap_last}
-use Rattle.plane.specs.Point.{Point, whole, Triple, IsPoint}
-use Rattle.plane.specs.Segment.{On}
-use Rattle.plane.specs.Triangle.{height_over}
-use Rattle.plane.specs.Turn.{IsLeft, IsStraight, determinant, IsRight}
+use Rattle.plane.specs.Prelude.{determinant, height_over, IsLeft, IsPoint, IsRight, IsStraight, On, Point, Triple, whole}
 use Rattle.ring_laws.proofs.Triangles.{left_of, left_of_is_left, on_first_side, in_triangle}
 use Rattle.funnels.proofs.Funnels.LineCrossed.{determinant_on_line, on_line_between, weight_on_line, not_left_along, not_right_along}
 use Rattle.funnels.specs.Funnel.{Reaches}

@@ -1,8 +1,7 @@
 -- The way passes an edge of a funnel as the side of its ends tells on which the goal is, and passes the same edges of a part of the
 -- funnel.
 use Rattle.std.proofs.Common.{◌≡◌, ◌↔◌, inl, inr, sym, subst, ℕ, ◌-◌, ◌<◌, ◌≤◌, List, arith}
-use Rattle.plane.specs.Point.{Point, Triple, whole}
-use Rattle.plane.specs.Turn.{IsLeft, IsRight}
+use Rattle.plane.specs.Prelude.{IsLeft, IsRight, Point, Triple, whole}
 use Rattle.rings.specs.Chain.{point_at}
 use Rattle.funnels.specs.Funnel.{IsPassed}
 

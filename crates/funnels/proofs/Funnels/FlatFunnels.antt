@@ -7,10 +7,7 @@ use Rattle.std.proofs.lemmas.Int.{ints}
 use Rattle.integer_algebra.proofs.SignSteps.{negative_not_zero, positive_not_zero}
 use Rattle.integer_algebra.proofs.Signs.{is_negative, is_positive, is_zero, sign}
 use Rattle.plane.proofs.Segments.{on_first_end, on_last_end}
-use Rattle.plane.specs.Point.{Point, whole, Triple}
-use Rattle.plane.specs.Segment.{On}
-use Rattle.plane.specs.Triangle.{height_over}
-use Rattle.plane.specs.Turn.{IsLeft, IsRight, IsStraight}
+use Rattle.plane.specs.Prelude.{height_over, IsLeft, IsRight, IsStraight, On, Point, Triple, whole}
 use Rattle.rings.specs.Chain.{point_at}
 use Rattle.funnels.proofs.Funnels.CrossingDiagonal.{on_by_sides, straight_on_line, on_or_beside}
 use Rattle.funnels.proofs.Funnels.Heights.{lower, lower_left, lower_right, not_negative, reaches_left, reaches_right}

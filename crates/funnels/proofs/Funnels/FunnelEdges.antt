@@ -2,8 +2,7 @@
 use Rattle.std.proofs.Common.{◌≡◌, inl, inr, refl, sym, subst, ◌∙◌, List, length, ℕ, ◌+◌, ◌-◌, ◌<◌, arith}
 use Rattle.std.proofs.lemmas.Bool.{cases_lt}
 use Rattle.integer_algebra.proofs.SignSteps.{positive_not_negative}
-use Rattle.plane.specs.Point.{Point, Triple, whole}
-use Rattle.plane.specs.Turn.{IsLeft, IsRight}
+use Rattle.plane.specs.Prelude.{IsLeft, IsRight, Point, Triple, whole}
 use Rattle.rings.specs.Chain.{point_at}
 use Rattle.funnels.proofs.Funnels.CrossingDiagonal.{IsEnd}
 use Rattle.funnels.specs.Funnel.{IsFunnel, IsFunnelEdge, IsInWindow, IsPassed, IsReachedFrom, Reaches}

@@ -5,9 +5,7 @@ use Rattle.std.proofs.lemmas.Bool.{cases_lt}
 use Rattle.std.proofs.lemmas.Int.{ints}
 use Rattle.integer_algebra.proofs.SignSteps.{zero_not_negative}
 use Rattle.plane.proofs.Turns.{areas_add, determinant_same_ends, determinant_same_last, determinant_swap_ends}
-use Rattle.plane.specs.Point.{Point, whole}
-use Rattle.plane.specs.Triangle.{height_over}
-use Rattle.plane.specs.Turn.{determinant}
+use Rattle.plane.specs.Prelude.{determinant, height_over, Point, whole}
 use Rattle.rings.specs.Chain.{point_at}
 use Rattle.funnels.specs.Funnel.{IsFunnel, Reaches}
 

@@ -5,9 +5,7 @@ use Rattle.integer_algebra.proofs.SignSteps.{at_least_unless, at_most_unless, no
 use Rattle.plane.proofs.Meetings.{no_value, weights_apart, zero_combination, zero_point}
 use Rattle.plane.proofs.Turns.{determinant_swap_first, four_triples, four_triples_in_W, linear, determinant_along, determinant_is_linear}
 use Rattle.plane.proofs.Turns.{on_of_combination}
-use Rattle.plane.specs.Point.{IsPoint, Triple}
-use Rattle.plane.specs.Segment.{On}
-use Rattle.plane.specs.Turn.{IsLeft, IsRight, IsStraight, determinant}
+use Rattle.plane.specs.Prelude.{determinant, IsLeft, IsPoint, IsRight, IsStraight, On, Triple}
 use Rattle.ring_laws.proofs.Triangles.{not_right_between, of_side}
 use Rattle.meshes.proofs.Cones.{not_left_between}
 

@@ -8,10 +8,7 @@ use Rattle.plane.proofs.Points.{whole_is_point}
 use Rattle.plane.proofs.Segments.{on_is_straight}
 use Rattle.plane.proofs.Turns.{areas_add, determinant_same_ends, determinant_same_last, determinant_swap_ends, combination_of, determinant_along}
 use Rattle.plane.proofs.Turns.{weights_positive}
-use Rattle.plane.specs.Point.{IsPoint, Point, Triple, whole}
-use Rattle.plane.specs.Segment.{On}
-use Rattle.plane.specs.Triangle.{height_over}
-use Rattle.plane.specs.Turn.{IsStraight, determinant}
+use Rattle.plane.specs.Prelude.{determinant, height_over, IsPoint, IsStraight, On, Point, Triple, whole}
 use Rattle.rings.specs.Chain.{point_at}
 use Rattle.funnels.proofs.Funnels.CrossingDiagonal.{crossing_in_window}
 use Rattle.funnels.proofs.Funnels.FlatFunnels.{flat_apex, at_last, flat_off_apex}

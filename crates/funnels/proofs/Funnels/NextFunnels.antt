@@ -7,9 +7,7 @@ use Rattle.std.proofs.lemmas.Bool.{cases_lt}
 use Rattle.integer_algebra.proofs.SignSteps.{negative_not_zero, not_both, turned_negative, weak_order, positive_not_zero}
 use Rattle.plane.proofs.Points.{whole_is_point}
 use Rattle.plane.proofs.Turns.{determinant_same_ends, determinant_same_last, determinant_swap_last}
-use Rattle.plane.specs.Point.{Point, whole, IsPoint, Triple}
-use Rattle.plane.specs.Segment.{On}
-use Rattle.plane.specs.Triangle.{height_over}
+use Rattle.plane.specs.Prelude.{height_over, IsPoint, On, Point, Triple, whole}
 use Rattle.rings.specs.Chain.{point_at}
 use Rattle.funnels.proofs.Funnels.FunnelEdges.{not_passed_not_right, passed_not_left, window_of_reached}
 use Rattle.funnels.proofs.Funnels.Heights.{not_negative}

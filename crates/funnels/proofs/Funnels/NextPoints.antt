@@ -4,8 +4,7 @@ use Rattle.std.proofs.lemmas.Bool.{cases_lt}
 use Rattle.std.proofs.lemmas.List.{get_or-append_right, get_or-drop, get_or-take, get_or_append_left, length-append, length-drop}
 use Rattle.std.proofs.lemmas.List.{length-take-le}
 use Rattle.plane.specs.Point.{Point}
-use Rattle.rings.specs.Chain.{point_at}
-use Rattle.rings.specs.Ring.{origin}
+use Rattle.rings.specs.Prelude.{origin, point_at}
 use Rattle.funnels.proofs.Funnels.ThreePoints.{by_points}
 
 module _ (ns : List Point) (m : Point) (h : ℕ) where

@@ -9,9 +9,7 @@ use Rattle.integer_algebra.proofs.SignSteps.{turned_not_negative, weak, weak_ord
 use Rattle.integer_algebra.proofs.Signs.{lt_or_le}
 use Rattle.plane.proofs.Regions.{four_beside}
 use Rattle.plane.proofs.Turns.{determinant_same_ends, determinant_swap_first}
-use Rattle.plane.specs.Point.{IsPoint, Point, Triple, whole}
-use Rattle.plane.specs.Triangle.{height_over}
-use Rattle.plane.specs.Turn.{IsLeft, IsRight, IsStraight, determinant}
+use Rattle.plane.specs.Prelude.{determinant, height_over, IsLeft, IsPoint, IsRight, IsStraight, Point, Triple, whole}
 use Rattle.rings.specs.Chain.{point_at}
 use Rattle.funnels.proofs.Funnels.CrossingDiagonal.{straight_on_line, areas_with}
 use Rattle.funnels.proofs.Funnels.FlatFunnels.{left_of_apex, right_of_apex, IsFlat, flat_left, flat_right, turn_left, turn_right}

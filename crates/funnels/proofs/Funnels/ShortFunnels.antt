@@ -2,8 +2,7 @@
 use Rattle.std.proofs.Common.{◌≡◌, inl, inr, refl, sym, subst, ◌∙◌, [], ◌∷◌, ℕ, zero, suc, ◌+◌, ◌<◌, ◌≤◌, pos, ◌≤ℤ◌, arith}
 use Rattle.integer_algebra.proofs.SignSteps.{not_both, not_both_positive, turned_not_positive, zero_not_negative, zero_not_positive}
 use Rattle.plane.proofs.Turns.{determinant_same_last, determinant_shift, determinant_swap_first}
-use Rattle.plane.specs.Point.{Point, whole}
-use Rattle.plane.specs.Turn.{IsLeft, determinant}
+use Rattle.plane.specs.Prelude.{determinant, IsLeft, Point, whole}
 use Rattle.rings.specs.Chain.{point_at}
 use Rattle.funnels.specs.Funnel.{IsFunnel, IsFunnelEdge, Reaches}
 

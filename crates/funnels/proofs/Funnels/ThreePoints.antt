@@ -1,7 +1,6 @@
 -- What holds of three points, as a turn, holds of the same points by other names.
 use Rattle.std.proofs.Common.{◌≡◌, sym, subst}
-use Rattle.plane.specs.Point.{Point, whole}
-use Rattle.plane.specs.Turn.{IsLeft, IsRight}
+use Rattle.plane.specs.Prelude.{IsLeft, IsRight, Point, whole}
 
 -- what holds of three points holds of the same by other names
 pub by_points : (T : Point → Point → Point → Type 0) (p q s u v w : Point) → u ≡ p → v ≡ q → w ≡ s → T p q s → T u v w

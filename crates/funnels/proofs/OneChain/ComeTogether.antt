@@ -8,17 +8,13 @@ use Rattle.integer_algebra.proofs.Signs.{is_negative, is_positive, is_zero, sign
 use Rattle.plane.proofs.Points.{whole_is_point}
 use Rattle.plane.proofs.Segments.{on_first_end, on_last_end, on_reversed}
 use Rattle.plane.proofs.Turns.{determinant_swap_last}
-use Rattle.plane.specs.Point.{Point, whole}
-use Rattle.plane.specs.Segment.{Meet, On}
-use Rattle.plane.specs.Turn.{IsRight, IsLeft, determinant}
-use Rattle.rings.specs.Chain.{point_at, IsBentChain, IsInner}
-use Rattle.rings.specs.Ring.{vertex}
+use Rattle.plane.specs.Prelude.{determinant, IsLeft, IsRight, Meet, On, Point, whole}
+use Rattle.rings.specs.Prelude.{IsBentChain, IsInner, point_at, vertex}
 use Rattle.meshes.proofs.Parts.{side_in, paved}
 use Rattle.meshes.proofs.TreeLeaves.{next_corner}
-use Rattle.meshes.specs.Fits.{Fits, IsInTri}
-use Rattle.meshes.specs.Laws.{CrossesSide, walk_tri}
-use Rattle.meshes.specs.Side.{HasSide, IsWalk, tri_at}
+use Rattle.meshes.specs.Prelude.{Fits, HasSide, IsInTri, IsWalk, tri_at}
 use Rattle.meshes.specs.declared.tri.Tri.{Tri}
+use Rattle.meshes.specs.Laws.{CrossesSide, walk_tri}
 use Rattle.funnels.proofs.DeadEnds.{opposite_side, one_first, crossed_shared, some_crossed, front_to, some_triangle, follows}
 use Rattle.funnels.proofs.OneChain.SameChains.{ComeOnOneRay, before_last, last_of, ends_differ}
 use Rattle.funnels.proofs.Passing.{right_of_side, way_meets, IsAlong, IsBefore, begin_passing, none_at, on_one_ray, ComeTo}

@@ -1,12 +1,11 @@
 -- In a simple ring a taut chain is the path between its ends, and a chain with bends is taut.
 use Rattle.std.proofs.Common.{◌≡◌, ◌↔◌, refl, subst, sym, ◌∙◌, ◌-◌, ◌≤◌, List, length, ap}
 use Rattle.plane.specs.Point.{Point}
-use Rattle.rings.specs.Chain.{IsBentChain, IsPath, IsTaut, point_at}
+use Rattle.rings.specs.Prelude.{IsBentChain, IsPath, IsSimple, IsTaut, point_at}
 use Rattle.rings.specs.From.{IsPredecessor}
-use Rattle.rings.specs.Simple.{IsSimple}
 use Rattle.ring_laws.proofs.Simple.{bent_kept, kept_ring}
 use Rattle.meshes.proofs.Triangulations.{triangulation}
-use Rattle.meshes.specs.Fits.{Fits}
+use Rattle.meshes.specs.Prelude.{Fits}
 use Rattle.meshes.specs.declared.tri.Tri.{Tri}
 use Rattle.funnels.proofs.DeadEnds.{closed_chain}
 use Rattle.funnels.proofs.OneChain.ComeTogether.{come_on_one_ray}

@@ -10,14 +10,9 @@ use Rattle.plane.proofs.Points.{same_whole, whole_is_point, same_refl}
 use Rattle.plane.proofs.Segments.{on_first_end, on_reversed, on_nested, on_is_straight}
 use Rattle.plane.proofs.Turns.{determinant_swap_last, straight_swap_last, straight_shift_back}
 use Rattle.plane.specs.Cone.{IsInCone}
-use Rattle.plane.specs.Point.{Point, Triple, whole, IsSame}
-use Rattle.plane.specs.Segment.{On}
+use Rattle.plane.specs.Prelude.{IsSame, On, Point, Triple, whole}
 use Rattle.rings.proofs.Simple.{same_or_not}
-use Rattle.rings.specs.Bend.{IsBend}
-use Rattle.rings.specs.Chain.{IsBentChain, point_at}
-use Rattle.rings.specs.Inside.{IsIn}
-use Rattle.rings.specs.Ring.{origin}
-use Rattle.rings.specs.Sees.{Sees}
+use Rattle.rings.specs.Prelude.{IsBend, IsBentChain, IsIn, origin, point_at, Sees}
 use Rattle.funnels.proofs.Bends.{AreOnRay, on_ray_back, turning_to_ray, chain_more}
 use Rattle.funnels.proofs.OneChain.SubChains.{front_and_last, front_at, front_bent, front_length}
 

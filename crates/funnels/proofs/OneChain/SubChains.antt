@@ -3,8 +3,7 @@ use Rattle.std.proofs.Common.{◌≡◌, sym, ap, ◌∙◌, ℕ, ◌+◌, ◌-�
 use Rattle.std.proofs.Math.Seq.{take-length}
 use Rattle.std.proofs.lemmas.List.{get_or-take, length-take-le, take_more}
 use Rattle.plane.specs.Point.{Point}
-use Rattle.rings.specs.Chain.{IsBentChain, point_at}
-use Rattle.rings.specs.Ring.{origin}
+use Rattle.rings.specs.Prelude.{IsBentChain, origin, point_at}
 
 -- ---- the front of a chain
 

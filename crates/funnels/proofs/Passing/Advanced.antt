@@ -4,12 +4,9 @@ use Rattle.integer_algebra.proofs.SignSteps.{turned_not_negative, turned_positiv
 use Rattle.plane.proofs.Points.{whole_is_point}
 use Rattle.plane.proofs.Segments.{on_last_end, on_reversed, on_nested}
 use Rattle.plane.proofs.Turns.{determinant_shift}
-use Rattle.plane.specs.Point.{IsPoint, Point, Triple, whole}
-use Rattle.plane.specs.Segment.{On}
-use Rattle.rings.specs.Bend.{AreNeighbours}
-use Rattle.rings.specs.Ring.{vertex}
-use Rattle.meshes.specs.Fits.{Fits}
-use Rattle.meshes.specs.Side.{tri_at}
+use Rattle.plane.specs.Prelude.{IsPoint, On, Point, Triple, whole}
+use Rattle.rings.specs.Prelude.{AreNeighbours, vertex}
+use Rattle.meshes.specs.Prelude.{Fits, tri_at}
 use Rattle.meshes.specs.declared.tri.Tri.{Tri}
 use Rattle.funnels.proofs.Bends.{corner_back, negative_unless, not_swept, turning_not, turning_swap}
 use Rattle.funnels.proofs.Corners.{corner_after, corner_before}

@@ -13,8 +13,7 @@ use Rattle.integer_algebra.proofs.Signs.{factor_nonpositive, mul_nonnegative, mu
 use Rattle.plane.proofs.Points.{whole_is_point}
 use Rattle.plane.proofs.Segments.{on_is_straight}
 use Rattle.plane.proofs.Turns.{written_determinant, combination_of, weights_positive}
-use Rattle.plane.specs.Point.{Point, whole, Triple, IsPoint}
-use Rattle.plane.specs.Segment.{On}
+use Rattle.plane.specs.Prelude.{IsPoint, On, Point, Triple, whole}
 use Rattle.funnels.proofs.Bends.{turning_along}
 use Rattle.funnels.specs.Fanned.{turning}
 use Rattle.funnels.specs.Passing.{opening, ArePassing}

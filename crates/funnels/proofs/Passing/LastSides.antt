@@ -8,18 +8,13 @@ use Rattle.integer_algebra.proofs.Signs.{is_negative, is_positive, is_zero, sign
 use Rattle.plane.proofs.Points.{same_whole, whole_is_point}
 use Rattle.plane.proofs.Segments.{on_reversed}
 use Rattle.plane.proofs.Turns.{determinant_same_first, determinant_of_whole, determinant_swap_first}
-use Rattle.plane.specs.Point.{IsSame, Point, whole, IsPoint, Triple}
-use Rattle.plane.specs.Segment.{On}
-use Rattle.plane.specs.Turn.{IsStraight, IsLeft, IsRight}
+use Rattle.plane.specs.Prelude.{IsLeft, IsPoint, IsRight, IsSame, IsStraight, On, Point, Triple, whole}
 use Rattle.rings.proofs.Simple.{apart_of_simple}
-use Rattle.rings.specs.Bend.{AreNeighbours, IsBend}
-use Rattle.rings.specs.Orientation.{IsReflex}
-use Rattle.rings.specs.Ring.{vertex}
+use Rattle.rings.specs.Prelude.{AreNeighbours, IsBend, IsReflex, vertex}
 use Rattle.ring_laws.proofs.Triangles.{left_of_first}
 use Rattle.ring_laws.proofs.Vertices.{beside_next, neighbours_not_on_ray, same_number}
 use Rattle.meshes.proofs.TreeLeaves.{closed_of_sides, turns_left}
-use Rattle.meshes.specs.Fits.{Fits, IsInTri}
-use Rattle.meshes.specs.Side.{tri_at}
+use Rattle.meshes.specs.Prelude.{Fits, IsInTri, tri_at}
 use Rattle.meshes.specs.declared.tri.Tri.{Tri}
 use Rattle.funnels.proofs.Bends.{AreOnRay, corner_in_ring, corner_turns, level_is_vertex, neighbour_differs, not_ahead_of_itself}
 use Rattle.funnels.proofs.Bends.{not_reflex, ray_ahead, turning_differs, turning_four, turning_from_ray, turning_not, turning_straight}

@@ -4,16 +4,12 @@ use Rattle.std.proofs.Common.{◌≡◌, inl, inr, sym, subst, ap, ◌∙◌, Bo
 use Rattle.std.specs.List.{range_with_len}
 use Rattle.plane.proofs.Points.{whole_is_point}
 use Rattle.plane.proofs.Segments.{on_first_end, on_reversed, on_nested}
-use Rattle.plane.specs.Point.{IsPoint, Point, Triple, whole}
-use Rattle.plane.specs.Segment.{Meet, On}
-use Rattle.rings.specs.Chain.{IsInner, point_at}
-use Rattle.rings.specs.Ring.{vertex}
-use Rattle.rings.specs.Sees.{Sees}
+use Rattle.plane.specs.Prelude.{IsPoint, Meet, On, Point, Triple, whole}
+use Rattle.rings.specs.Prelude.{IsInner, point_at, Sees, vertex}
 use Rattle.meshes.proofs.Parts.{side_in, paved}
-use Rattle.meshes.specs.Fits.{Fits, IsInTri}
-use Rattle.meshes.specs.Laws.{CrossesSide, walk_tri}
-use Rattle.meshes.specs.Side.{IsWalk}
+use Rattle.meshes.specs.Prelude.{Fits, IsInTri, IsWalk}
 use Rattle.meshes.specs.declared.tri.Tri.{Tri}
+use Rattle.meshes.specs.Laws.{CrossesSide, walk_tri}
 use Rattle.funnels.proofs.Bends.{not_ahead_of_itself}
 use Rattle.funnels.proofs.DeadEnds.{HasSideOn, corner_at_side, crossed_back, crossed_before, crossed_shared, meets_on_part}
 use Rattle.funnels.proofs.Passing.Advanced.{advanced, advanced_other}

@@ -7,9 +7,7 @@ use Rattle.plane.proofs.Points.{same_sym, same_whole, whole_is_point}
 use Rattle.plane.proofs.Segments.{on_is_straight, on_same_point, first_on_line, one_meeting, same_straight}
 use Rattle.plane.proofs.Turns.{determinant_same_last, determinant_shift, determinant_swap_last, combination_of, determinant_along}
 use Rattle.plane.specs.Line.{cross_product}
-use Rattle.plane.specs.Point.{IsPoint, IsSame, Point, Triple, whole}
-use Rattle.plane.specs.Segment.{On}
-use Rattle.plane.specs.Turn.{IsLeft, IsRight, IsStraight, determinant}
+use Rattle.plane.specs.Prelude.{determinant, IsLeft, IsPoint, IsRight, IsSame, IsStraight, On, Point, Triple, whole}
 use Rattle.funnels.proofs.Bends.{level_is_vertex, ray_ahead, ray_behind, AreOnRay, on_ray_back, turning_from_ray, turning_to_ray, turning_four}
 
 -- ---- numbers

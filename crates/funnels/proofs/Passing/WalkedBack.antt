@@ -7,17 +7,11 @@ use Rattle.std.proofs.lemmas.Bool.{cases_lt}
 use Rattle.plane.proofs.Points.{whole_is_point}
 use Rattle.plane.proofs.Segments.{on_first_end, on_last_end}
 use Rattle.plane.proofs.Turns.{determinant_same_first, combination_of}
-use Rattle.plane.specs.Point.{Point, Triple, whole}
-use Rattle.plane.specs.Segment.{On}
-use Rattle.plane.specs.Turn.{IsStraight}
-use Rattle.rings.specs.Bend.{AreNeighbours, IsBend}
-use Rattle.rings.specs.Chain.{IsBentChain, IsInner, point_at}
-use Rattle.rings.specs.Ring.{vertex}
-use Rattle.rings.specs.Sees.{Sees}
-use Rattle.meshes.specs.Fits.{Fits, IsInTri}
-use Rattle.meshes.specs.Laws.{CrossesSide, walk_tri}
-use Rattle.meshes.specs.Side.{tri_at, IsWalk}
+use Rattle.plane.specs.Prelude.{IsStraight, On, Point, Triple, whole}
+use Rattle.rings.specs.Prelude.{AreNeighbours, IsBend, IsBentChain, IsInner, point_at, Sees, vertex}
+use Rattle.meshes.specs.Prelude.{Fits, IsInTri, IsWalk, tri_at}
 use Rattle.meshes.specs.declared.tri.Tri.{Tri}
+use Rattle.meshes.specs.Laws.{CrossesSide, walk_tri}
 use Rattle.funnels.proofs.Bends.{corner_turns, turning_along, turning_four, not_ahead_of_itself}
 use Rattle.funnels.proofs.Corners.{left_of_second}
 use Rattle.funnels.proofs.DeadEnds.{HasSideOn, corner_at_side, crossed_back, end_of_crossed, within_before}

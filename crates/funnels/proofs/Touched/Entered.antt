@@ -4,13 +4,11 @@ use Rattle.std.proofs.lemmas.Bool.{cases_lt}
 use Rattle.plane.proofs.Points.{whole_is_point}
 use Rattle.plane.proofs.Segments.{on_first_end}
 use Rattle.plane.specs.Point.{Point, whole}
-use Rattle.rings.specs.Chain.{IsBentChain, point_at}
-use Rattle.rings.specs.Ring.{vertex}
+use Rattle.rings.specs.Prelude.{IsBentChain, point_at, vertex}
 use Rattle.meshes.proofs.Sides.{ends_below}
-use Rattle.meshes.specs.Fits.{Fits, IsInTri}
-use Rattle.meshes.specs.Laws.{CrossesSide, walk_tri}
-use Rattle.meshes.specs.Side.{HasSide, HasSideBetween, IsWalk}
+use Rattle.meshes.specs.Prelude.{Fits, HasSide, HasSideBetween, IsInTri, IsWalk}
 use Rattle.meshes.specs.declared.tri.Tri.{Tri}
+use Rattle.meshes.specs.Laws.{CrossesSide, walk_tri}
 use Rattle.funnels.proofs.DeadEnds.{end_of_crossed, follows}
 use Rattle.funnels.proofs.Touched.LookedAt.{IsEntered, IsNextAt}
 use Rattle.funnels.proofs.Touched.TouchedCorners.{side_in_triangle}

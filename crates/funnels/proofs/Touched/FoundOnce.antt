@@ -7,14 +7,10 @@ use Rattle.std.proofs.lemmas.List.{get_or_append_left, length-append}
 use Rattle.plane.proofs.Order.{point_or_other}
 use Rattle.plane.proofs.Points.{whole_is_point}
 use Rattle.plane.proofs.Segments.{later_between, nearer_each, on_first_end, on_last_end, on_nested, on_or_not, on_reversed, nearer_on}
-use Rattle.plane.specs.Point.{Point, whole}
-use Rattle.plane.specs.Segment.{On}
+use Rattle.plane.specs.Prelude.{On, Point, whole}
 use Rattle.rings.proofs.Full.{no_more}
 use Rattle.rings.proofs.Vertices.{AreDistinct, has_cases}
-use Rattle.rings.specs.Chain.{point_at, IsBentChain}
-use Rattle.rings.specs.Edge.{Has}
-use Rattle.rings.specs.Ring.{origin}
-use Rattle.rings.specs.Simple.{IsSimple}
+use Rattle.rings.specs.Prelude.{Has, IsBentChain, IsSimple, origin, point_at}
 use Rattle.funnels.proofs.OneChain.{before_last, front, front_at, front_bent, front_length, last_of, one_bent_chain, shorter_step}
 use Rattle.funnels.specs.Touched.{IsAhead, IsLookedAt}
 

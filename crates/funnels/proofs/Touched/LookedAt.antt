@@ -5,18 +5,14 @@ use Rattle.std.proofs.lemmas.List.{append-nil, append_assoc, take_more}
 use Rattle.plane.proofs.Order.{point_or_other}
 use Rattle.plane.proofs.Points.{same_whole, whole_is_point}
 use Rattle.plane.proofs.Segments.{nearer_each, nearer_on, on_first_end, on_last_end, on_nested, on_reversed, on_total}
-use Rattle.plane.specs.Point.{Point, whole}
-use Rattle.plane.specs.Segment.{On}
+use Rattle.plane.specs.Prelude.{On, Point, whole}
 use Rattle.rings.proofs.Full.{full_more, in_order_more}
 use Rattle.rings.proofs.Vertices.{has_cases, has_left, has_right}
-use Rattle.rings.specs.Chain.{IsBentChain, point_at}
-use Rattle.rings.specs.Edge.{Has}
+use Rattle.rings.specs.Prelude.{Has, IsBentChain, origin, point_at, vertex}
 use Rattle.rings.specs.Full.{AreTouched, IsFull, IsNearer, IsVertexBetween}
-use Rattle.rings.specs.Ring.{origin, vertex}
-use Rattle.meshes.specs.Fits.{Fits, IsInTri}
-use Rattle.meshes.specs.Laws.{CrossesSide, walk_tri}
-use Rattle.meshes.specs.Side.{IsWalk}
+use Rattle.meshes.specs.Prelude.{Fits, IsInTri, IsWalk}
 use Rattle.meshes.specs.declared.tri.Tri.{Tri}
+use Rattle.meshes.specs.Laws.{CrossesSide, walk_tri}
 use Rattle.funnels.proofs.Touched.FoundOnce.{ahead_cases, before_last_part, beyond, on_last_part, only_point}
 use Rattle.funnels.proofs.Touched.TouchedCorners.{end_between, side_in_triangle}
 use Rattle.funnels.specs.Touched.{HasCome, IsAhead, IsEndAt, IsLookedAt, IsSearchOpen, IsVertexAhead}

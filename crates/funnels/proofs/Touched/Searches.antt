@@ -6,14 +6,11 @@ use Rattle.std.proofs.lemmas.List.{append-nil, append_assoc, take_more}
 use Rattle.plane.proofs.Segments.{on_first_end, on_last_end}
 use Rattle.plane.specs.Point.{Point, whole}
 use Rattle.rings.proofs.Full.{full_more}
-use Rattle.rings.specs.Chain.{IsBentChain, point_at}
-use Rattle.rings.specs.Edge.{Has}
+use Rattle.rings.specs.Prelude.{Has, IsBentChain, origin, point_at, vertex}
 use Rattle.rings.specs.Full.{AreTouched, IsFull}
-use Rattle.rings.specs.Ring.{origin, vertex}
-use Rattle.meshes.specs.Fits.{Fits, IsInTri}
-use Rattle.meshes.specs.Laws.{CrossesSide, walk_tri}
-use Rattle.meshes.specs.Side.{HasSide, IsWalk}
+use Rattle.meshes.specs.Prelude.{Fits, HasSide, IsInTri, IsWalk}
 use Rattle.meshes.specs.declared.tri.Tri.{Tri}
+use Rattle.meshes.specs.Laws.{CrossesSide, walk_tri}
 use Rattle.funnels.proofs.Touched.FoundOnce.{only_point}
 use Rattle.funnels.proofs.Touched.Entered.{number_below}
 use Rattle.funnels.proofs.Touched.LookedAt.{IsEntered, looked_at, none_between}

@@ -8,18 +8,14 @@ use Rattle.plane.proofs.Lists.{in_range}
 use Rattle.plane.proofs.Points.{same_sym, whole_is_point}
 use Rattle.plane.proofs.Segments.{later_between, on_first_end, on_nested, on_reversed, on_same_point, on_total, within_from}
 use Rattle.plane.proofs.Turns.{determinant_along, determinant_same_ends, determinant_same_last, determinant_shift}
-use Rattle.plane.specs.Point.{IsPoint, IsSame, Point, Triple, whole}
-use Rattle.plane.specs.Segment.{On}
-use Rattle.plane.specs.Turn.{determinant}
+use Rattle.plane.specs.Prelude.{determinant, IsPoint, IsSame, On, Point, Triple, whole}
 use Rattle.rings.proofs.Simple.{same_or_not}
-use Rattle.rings.specs.Ring.{vertex}
-use Rattle.rings.specs.Sees.{Sees}
+use Rattle.rings.specs.Prelude.{Sees, vertex}
 use Rattle.ring_laws.proofs.Triangles.{between_in_triangle}
 use Rattle.meshes.proofs.Parts.{opposite}
-use Rattle.meshes.specs.Fits.{Fits, IsInTri}
-use Rattle.meshes.specs.Laws.{CrossesSide, walk_tri}
-use Rattle.meshes.specs.Side.{HasSideBetween, IsWalk, tri_at, HasCorner}
+use Rattle.meshes.specs.Prelude.{Fits, HasCorner, HasSideBetween, IsInTri, IsWalk, tri_at}
 use Rattle.meshes.specs.declared.tri.Tri.{Tri}
+use Rattle.meshes.specs.Laws.{CrossesSide, walk_tri}
 use Rattle.funnels.proofs.Bends.{corner_turns, in_angle, level_is_vertex}
 use Rattle.funnels.proofs.Corners.{at_corner, corner_of, end_of_its_side}
 use Rattle.funnels.proofs.DeadEnds.{meets_on_part}

@@ -6,16 +6,14 @@ use Rattle.plane.proofs.Nearness.{Eventually, toward, toward_is_point}
 use Rattle.plane.proofs.Points.{whole_is_point}
 use Rattle.plane.proofs.Segments.{on_first_end, on_last_end, middle, middle_first, middle_is_point, middle_last, middle_on, middle_within}
 use Rattle.plane.proofs.Segments.{left_not_on, right_not_on}
-use Rattle.plane.specs.Point.{IsPoint, Point, Triple, whole}
-use Rattle.plane.specs.Turn.{IsLeft}
+use Rattle.plane.specs.Prelude.{IsLeft, IsPoint, Point, Triple, whole}
 use Rattle.rings.proofs.Crossings.{winding_law_crossed, right_swapped}
 use Rattle.rings.proofs.Inside.{not_in_from_even}
 use Rattle.rings.proofs.Simple.{proper_edges}
 use Rattle.rings.proofs.Vertices.{closed_edges_of, on_some_left, on_some_right, misses_between, on_none_with}
 use Rattle.rings.specs.Across.{CrossesRight, Misses}
 use Rattle.rings.specs.Apart.{IsApartRing}
-use Rattle.rings.specs.Edge.{Edge, HasEdge, IsClosed, IsOnSome, edges_of, edge}
-use Rattle.rings.specs.Inside.{IsIn, winding}
+use Rattle.rings.specs.Prelude.{Edge, edge, edges_of, HasEdge, IsClosed, IsIn, IsOnSome, winding}
 use Rattle.rings.specs.Winding.{WindsUpTo}
 use Rattle.ring_laws.proofs.Triangles.{crosses_near, left_of, left_of_is_left, off_others, other_edges}
 

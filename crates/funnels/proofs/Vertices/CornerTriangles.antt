@@ -6,21 +6,16 @@ use Rattle.plane.proofs.Nearness.{left_toward, left_eventually, toward, toward_i
 use Rattle.plane.proofs.Points.{same_whole, whole_is_point}
 use Rattle.plane.proofs.Segments.{on_last_end, middle, middle_first, middle_is_point, middle_last, middle_on}
 use Rattle.plane.proofs.Turns.{determinant_same_ends, determinant_same_last, determinant_swap_first}
-use Rattle.plane.specs.Point.{Point, whole, Triple}
-use Rattle.plane.specs.Segment.{On}
-use Rattle.plane.specs.Turn.{IsLeft, IsRight}
+use Rattle.plane.specs.Prelude.{IsLeft, IsRight, On, Point, Triple, whole}
 use Rattle.rings.proofs.Vertices.{end_of_second, on_some_of}
-use Rattle.rings.specs.Bend.{AreNeighbours}
-use Rattle.rings.specs.Edge.{edge, edges_of}
-use Rattle.rings.specs.Ring.{vertex}
+use Rattle.rings.specs.Prelude.{AreNeighbours, edge, edges_of, vertex}
 use Rattle.ring_laws.proofs.Triangles.{end_is_on, left_at_first}
 use Rattle.ring_laws.proofs.Vertices.{edge_between, neighbours_differ}
 use Rattle.ring_laws.specs.Diagonal.{IsDiagonal}
 use Rattle.meshes.proofs.Joins.{between_back}
 use Rattle.meshes.proofs.Parts.{one_vertex, ring_apart, ring_long, shared_is_diagonal, shared_of, paved, inside_off_edges}
 use Rattle.meshes.proofs.TreeLeaves.{by_turns, turns_left}
-use Rattle.meshes.specs.Fits.{FitsPiece, IsSideOfTwo, piece_points, IsStrictlyInTri}
-use Rattle.meshes.specs.Side.{HasSide, tri_at}
+use Rattle.meshes.specs.Prelude.{FitsPiece, HasSide, IsSideOfTwo, IsStrictlyInTri, piece_points, tri_at}
 use Rattle.meshes.specs.declared.tri.Tri.{Tri}
 
 -- ---- a diagonal of a ring

@@ -7,21 +7,16 @@ use Rattle.std.specs.List.{range_with_len}
 use Rattle.plane.proofs.Nearness.{Eventually, toward, toward_is_point}
 use Rattle.plane.proofs.Points.{whole_is_point}
 use Rattle.plane.proofs.Segments.{middle, middle_first, middle_is_point, middle_last, middle_on}
-use Rattle.plane.specs.Point.{Point, whole}
-use Rattle.plane.specs.Turn.{IsLeft}
+use Rattle.plane.specs.Prelude.{IsLeft, Point, whole}
 use Rattle.rings.proofs.Simple.{apart_of_simple, proper_edges}
 use Rattle.rings.proofs.Vertices.{edge_at, has_edge_at}
-use Rattle.rings.specs.Inside.{IsIn}
-use Rattle.rings.specs.Orientation.{IsCounterclockwise}
-use Rattle.rings.specs.Ring.{vertex}
-use Rattle.rings.specs.Simple.{IsSimple}
+use Rattle.rings.specs.Prelude.{IsCounterclockwise, IsIn, IsSimple, vertex}
 use Rattle.ring_laws.proofs.Simple.{runs_round}
 use Rattle.meshes.proofs.Joins.{in_tri}
 use Rattle.meshes.proofs.Parts.{near_side, opposite}
 use Rattle.meshes.proofs.Sides.{piece_points_all, two_fewer}
 use Rattle.meshes.proofs.Sight.{triangle_in_ring}
-use Rattle.meshes.specs.Fits.{Fits, IsPieceEdge, IsSideOfOne}
-use Rattle.meshes.specs.Side.{tri_at}
+use Rattle.meshes.specs.Prelude.{Fits, IsPieceEdge, IsSideOfOne, tri_at}
 use Rattle.meshes.specs.declared.tri.Tri.{Tri}
 use Rattle.funnels.proofs.Vertices.ClockwiseEdges.{not_clockwise}
 

@@ -7,14 +7,11 @@ use Rattle.std.proofs.lemmas.Bool.{cases_lt}
 use Rattle.std.proofs.lemmas.List.{get_or-drop, length-drop}
 use Rattle.integer_algebra.proofs.SignSteps.{turned_negative}
 use Rattle.plane.proofs.Turns.{determinant_swap_first}
-use Rattle.plane.specs.Point.{Point, whole, Triple}
-use Rattle.plane.specs.Triangle.{height_over}
-use Rattle.rings.specs.Chain.{point_at}
-use Rattle.rings.specs.Ring.{origin, vertex}
+use Rattle.plane.specs.Prelude.{height_over, Point, Triple, whole}
+use Rattle.rings.specs.Prelude.{origin, point_at, vertex}
 use Rattle.meshes.proofs.Sides.{ends_below}
 use Rattle.meshes.proofs.TreeLeaves.{next_corner, turns_left, side_is_one}
-use Rattle.meshes.specs.Fits.{Fits, IsSideOfTwo, IsInTri}
-use Rattle.meshes.specs.Side.{tri_at, HasSide}
+use Rattle.meshes.specs.Prelude.{Fits, HasSide, IsInTri, IsSideOfTwo, tri_at}
 use Rattle.meshes.specs.declared.tri.Tri.{Tri}
 use Rattle.funnels.proofs.Chains.{step_left, step_right}
 use Rattle.funnels.proofs.Funnels.{next_left_old, next_right_last, next_right_length, next_right_old}

@@ -8,18 +8,14 @@ use Rattle.std.specs.List.{range_with_len}
 use Rattle.std.proofs.lemmas.List.{get_or_push, length-append}
 use Rattle.plane.proofs.Order.{point_or_other}
 use Rattle.plane.proofs.Points.{whole_is_point}
-use Rattle.plane.specs.Point.{Point, whole, Triple}
+use Rattle.plane.specs.Point.{Point, Triple, whole}
 use Rattle.rings.proofs.Inside.{in_turned_iff}
-use Rattle.rings.specs.Chain.{IsPath, point_at}
+use Rattle.rings.specs.Prelude.{IsIn, IsPath, origin, point_at, turned_round, vertex}
 use Rattle.rings.specs.From.{IsPredecessor}
-use Rattle.rings.specs.Inside.{IsIn}
-use Rattle.rings.specs.Orientation.{turned_round}
-use Rattle.rings.specs.Ring.{origin, vertex}
 use Rattle.ring_laws.proofs.Simple.{kept_ring, taut_turned_iff}
 use Rattle.meshes.proofs.Sight.{shared_from}
 use Rattle.meshes.proofs.Triangulations.{triangulation}
-use Rattle.meshes.specs.Fits.{Fits, IsInTri, IsSideOfTwo}
-use Rattle.meshes.specs.Side.{IsWalk, tri_at}
+use Rattle.meshes.specs.Prelude.{Fits, IsInTri, IsSideOfTwo, IsWalk, tri_at}
 use Rattle.meshes.specs.declared.tri.Tri.{Tri}
 use Rattle.funnels.proofs.Chains.{chain_to}
 use Rattle.funnels.proofs.DeadEnds.{some_triangle}

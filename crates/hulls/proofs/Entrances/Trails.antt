@@ -8,18 +8,14 @@ use Rattle.plane.proofs.Order.{point_or_other}
 use Rattle.plane.proofs.Points.{whole_is_point}
 use Rattle.plane.proofs.Segments.{on_reversed}
 use Rattle.plane.proofs.Turns.{determinant_same_last, determinant_shift, determinant_swap_ends}
-use Rattle.plane.specs.Point.{IsPoint, IsSame, Point, Triple, whole}
-use Rattle.plane.specs.Segment.{On}
-use Rattle.plane.specs.Turn.{IsLeft, IsRight}
-use Rattle.rings.specs.Chain.{point_at}
-use Rattle.rings.specs.Ring.{vertex}
+use Rattle.plane.specs.Prelude.{IsLeft, IsPoint, IsRight, IsSame, On, Point, Triple, whole}
+use Rattle.rings.specs.Prelude.{point_at, vertex}
 use Rattle.ring_laws.proofs.Triangles.{not_right_between}
 use Rattle.meshes.proofs.Cones.{not_left_between}
 use Rattle.meshes.proofs.Sides.{ends_below}
 use Rattle.meshes.proofs.Sight.{not_right_of_side}
 use Rattle.meshes.proofs.TreeLeaves.{next_corner}
-use Rattle.meshes.specs.Fits.{IsSideOfTwo, Fits, IsInTri}
-use Rattle.meshes.specs.Side.{HasSide, tri_at}
+use Rattle.meshes.specs.Prelude.{Fits, HasSide, IsInTri, IsSideOfTwo, tri_at}
 use Rattle.meshes.specs.declared.tri.Tri.{Tri}
 use Rattle.funnels.proofs.Chains.{start_at_left, start_at_right, start_between}
 use Rattle.funnels.specs.Funnel.{IsReachedFrom}

@@ -9,10 +9,7 @@ use Rattle.integer_algebra.proofs.Signs.{lt_or_le}
 use Rattle.plane.proofs.Points.{whole_is_point}
 use Rattle.plane.proofs.Segments.{on_reversed}
 use Rattle.plane.proofs.Turns.{determinant_same_ends, determinant_same_last}
-use Rattle.plane.specs.Point.{IsPoint, IsSame, Point, Triple, whole}
-use Rattle.plane.specs.Segment.{On}
-use Rattle.plane.specs.Triangle.{height_over}
-use Rattle.plane.specs.Turn.{determinant}
+use Rattle.plane.specs.Prelude.{determinant, height_over, IsPoint, IsSame, On, Point, Triple, whole}
 use Rattle.rings.specs.Chain.{point_at}
 use Rattle.ring_laws.proofs.Triangles.{not_right_between}
 use Rattle.meshes.proofs.Cones.{not_left_between}

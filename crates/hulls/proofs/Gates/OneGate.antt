@@ -6,10 +6,7 @@ use Rattle.std.proofs.lemmas.Int.{ints}
 use Rattle.integer_algebra.proofs.SignSteps.{not_both, not_both_positive, positive_not_negative, zero_of_neither}
 use Rattle.integer_algebra.proofs.Signs.{lt_or_le}
 use Rattle.plane.proofs.Points.{whole_is_point}
-use Rattle.plane.specs.Point.{IsPoint, Point, Triple, whole}
-use Rattle.plane.specs.Segment.{On}
-use Rattle.plane.specs.Triangle.{height_over}
-use Rattle.plane.specs.Turn.{determinant, IsLeft, IsRight}
+use Rattle.plane.specs.Prelude.{determinant, height_over, IsLeft, IsPoint, IsRight, On, Point, Triple, whole}
 use Rattle.rings.specs.Chain.{point_at}
 use Rattle.meshes.proofs.Cones.{not_left_between}
 use Rattle.funnels.proofs.Funnels.{not_passed_from, passed_to, IsFlat, flat_left, flat_right, left_of_apex, lower_left, lower_right}

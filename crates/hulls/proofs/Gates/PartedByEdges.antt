@@ -16,10 +16,7 @@ use Rattle.plane.proofs.Points.{whole_is_point}
 use Rattle.plane.proofs.Regions.{four_beside}
 use Rattle.plane.proofs.Turns.{determinant_shift, combination_of_ends, determinant_along, determinant_same_ends, determinant_same_last}
 use Rattle.plane.proofs.Turns.{determinant_shift_back, four_triples_in_W, four_triples_in_X, four_triples_in_Y, on_of_combination}
-use Rattle.plane.specs.Point.{Point, Triple, whole, IsPoint}
-use Rattle.plane.specs.Segment.{On}
-use Rattle.plane.specs.Triangle.{height_over}
-use Rattle.plane.specs.Turn.{IsLeft, IsRight, IsStraight, determinant}
+use Rattle.plane.specs.Prelude.{determinant, height_over, IsLeft, IsPoint, IsRight, IsStraight, On, Point, Triple, whole}
 use Rattle.rings.specs.Chain.{point_at}
 use Rattle.funnels.proofs.Funnels.{IsFlat, flat_left, in_proportion, not_negative, passed_from, passed_of, straight_on_line, turn_left}
 use Rattle.funnels.proofs.Funnels.{turn_right, flat_right}

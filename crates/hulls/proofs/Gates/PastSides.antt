@@ -8,15 +8,11 @@ use Rattle.integer_algebra.proofs.Signs.{is_negative, is_positive, is_zero, sign
 use Rattle.plane.proofs.Points.{whole_is_point}
 use Rattle.plane.proofs.Segments.{on_is_straight, same_without_last}
 use Rattle.plane.proofs.Turns.{straight_swap_first, determinant_swap_first, combination_of, determinant_along}
-use Rattle.plane.specs.Point.{IsPoint, Point, Triple, whole, IsSame}
-use Rattle.plane.specs.Segment.{On}
-use Rattle.plane.specs.Triangle.{height_over}
-use Rattle.plane.specs.Turn.{IsRight, IsLeft, determinant}
+use Rattle.plane.specs.Prelude.{determinant, height_over, IsLeft, IsPoint, IsRight, IsSame, On, Point, Triple, whole}
 use Rattle.rings.specs.Ring.{vertex}
 use Rattle.ring_laws.proofs.Triangles.{on_first_side}
 use Rattle.meshes.proofs.TreeLeaves.{closed_of_sides, next_corner, turns_left}
-use Rattle.meshes.specs.Fits.{IsInTri}
-use Rattle.meshes.specs.Side.{HasSide}
+use Rattle.meshes.specs.Prelude.{HasSide, IsInTri}
 use Rattle.meshes.specs.declared.tri.Tri.{Tri}
 
 -- z is past the diagonal from l to r: right of the way from r to l, or on the segment between them

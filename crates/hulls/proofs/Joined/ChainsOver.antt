@@ -4,13 +4,8 @@ use Rattle.std.proofs.Common.{◌≡◌, refl, sym, ap, ◌∙◌, ℕ, ◌+◌,
 use Rattle.std.proofs.lemmas.List.{get_or-drop, get_or-reverse, length-drop, length-reverse}
 use Rattle.plane.proofs.Points.{same_whole, whole_is_point}
 use Rattle.plane.proofs.Segments.{on_reversed}
-use Rattle.plane.specs.Point.{Point, whole}
-use Rattle.plane.specs.Segment.{On}
-use Rattle.rings.specs.Bend.{IsBend}
-use Rattle.rings.specs.Chain.{IsBentChain, point_at, IsPath}
-use Rattle.rings.specs.Ring.{origin}
-use Rattle.rings.specs.Sees.{Sees}
-use Rattle.rings.specs.Simple.{IsSimple}
+use Rattle.plane.specs.Prelude.{On, Point, whole}
+use Rattle.rings.specs.Prelude.{IsBend, IsBentChain, IsPath, IsSimple, origin, point_at, Sees}
 use Rattle.meshes.proofs.Sight.{sees_before, sees_on}
 use Rattle.funnels.proofs.Bends.{AreOnRay, on_ray_back}
 use Rattle.funnels.proofs.OneChain.{bend_back, bend_from_ray, last_of, one_taut_chain, taut_iff_bent}

@@ -4,12 +4,7 @@ use Rattle.std.proofs.Common.{◌≡◌, inl, inr, subst, ap, ◌∙◌, ℕ, �
 use Rattle.std.proofs.lemmas.Bool.{cases_lt}
 use Rattle.std.proofs.lemmas.List.{get_or-append_right, get_or_append_left, length-append}
 use Rattle.plane.specs.Point.{Point, whole}
-use Rattle.rings.specs.Bend.{IsBend}
-use Rattle.rings.specs.Chain.{IsBentChain, IsInner, point_at}
-use Rattle.rings.specs.Inside.{IsIn}
-use Rattle.rings.specs.Ring.{origin}
-use Rattle.rings.specs.Sees.{Sees}
-use Rattle.rings.specs.Simple.{IsSimple}
+use Rattle.rings.specs.Prelude.{IsBend, IsBentChain, IsIn, IsInner, IsSimple, origin, point_at, Sees}
 use Rattle.funnels.proofs.OneChain.{before_last, front_at, front_bent, front_length, last_of, one_bent_chain}
 
 -- the last point of one list sees the first of the other, and the way over each of them has a bend there

@@ -9,11 +9,8 @@ use Rattle.std.proofs.lemmas.List.{length-drop, length-reverse}
 use Rattle.plane.proofs.Order.{point_or_other}
 use Rattle.plane.proofs.Points.{whole_is_point}
 use Rattle.plane.proofs.Segments.{on_first_end, on_reversed, on_last_end}
-use Rattle.plane.specs.Point.{Point, whole}
-use Rattle.plane.specs.Segment.{On}
-use Rattle.rings.specs.Bend.{IsBend}
-use Rattle.rings.specs.Chain.{IsBentChain, IsPath, IsTaut, point_at}
-use Rattle.rings.specs.Simple.{IsSimple}
+use Rattle.plane.specs.Prelude.{On, Point, whole}
+use Rattle.rings.specs.Prelude.{IsBend, IsBentChain, IsPath, IsSimple, IsTaut, point_at}
 use Rattle.funnels.proofs.Chains.{one_bent}
 use Rattle.funnels.proofs.OneChain.{bend_back, last_of, one_bent_chain}
 use Rattle.hulls.proofs.Joined.ChainsOver.{GoesOnTo, back_at, back_bent, goes_on_beyond, goes_on_step, on_path_over, over_bent, over_ends}

@@ -12,12 +12,8 @@ use Rattle.plane.proofs.Order.{point_or_other}
 use Rattle.plane.proofs.Points.{whole_is_point}
 use Rattle.plane.proofs.Segments.{nearer_each, nearer_on, on_total}
 use Rattle.plane.proofs.Turns.{determinant_swap_first, straight_swap_first, determinant_same_last, written_determinant}
-use Rattle.plane.specs.Point.{Point, whole}
-use Rattle.plane.specs.Segment.{On}
-use Rattle.plane.specs.Turn.{IsLeft, IsRight, determinant}
-use Rattle.rings.specs.Bend.{IsBend}
-use Rattle.rings.specs.Chain.{IsBentChain, point_at}
-use Rattle.rings.specs.Simple.{IsSimple}
+use Rattle.plane.specs.Prelude.{determinant, IsLeft, IsRight, On, Point, whole}
+use Rattle.rings.specs.Prelude.{IsBend, IsBentChain, IsSimple, point_at}
 use Rattle.funnels.proofs.Bends.{AreOnRay, turning_differs, turning_four, turning_from_ray, turning_to_ray}
 use Rattle.funnels.proofs.OneChain.{bend_back}
 use Rattle.hulls.proofs.Cones.{joined_one_side}

@@ -1,8 +1,7 @@
 -- Points to the left of one another, seen from t, whose paths go first along a ray from t or to the right of it.
 use Rattle.std.proofs.Common.{◌≡◌, ◌≢◌, inl, inr, refl, sym, ap, subst, ◌∙◌, ◌<◌, ◌≤◌, List, [], ◌∷◌, ◌++◌, length, drop, arith}
 use Rattle.plane.specs.Point.{Point}
-use Rattle.rings.specs.Chain.{IsBentChain, IsPath, point_at}
-use Rattle.rings.specs.Simple.{IsSimple}
+use Rattle.rings.specs.Prelude.{IsBentChain, IsPath, IsSimple, point_at}
 use Rattle.hulls.proofs.Joined.{path_is_taut, rest_at}
 use Rattle.hulls.proofs.Order.Followed.{AreAhead, left_follows, IsLeftOf, TurnsLeft}
 use Rattle.hulls.proofs.Order.Starts.{IsRightOn, ahead_of_ray}

@@ -8,9 +8,7 @@ use Rattle.integer_algebra.proofs.SignSteps.{opposite_not_negative, weak}
 use Rattle.integer_algebra.proofs.Signs.{lt_or_le, mul_order, squares_positive}
 use Rattle.plane.proofs.Points.{same_whole, whole_is_point}
 use Rattle.plane.proofs.Turns.{on_of_combination, written_determinant}
-use Rattle.plane.specs.Point.{Point, whole}
-use Rattle.plane.specs.Segment.{On}
-use Rattle.plane.specs.Turn.{IsLeft, IsRight, IsStraight, determinant}
+use Rattle.plane.specs.Prelude.{determinant, IsLeft, IsRight, IsStraight, On, Point, whole}
 use Rattle.hulls.proofs.Order.Followed.{AreAhead}
 
 -- ---- how far a point is ahead

@@ -2,8 +2,7 @@
 use Rattle.std.proofs.Common.{◌≢◌, inl, inr, sym, ap, ℕ, ◌≤◌, List, length}
 use Rattle.std.proofs.lemmas.Bool.{cases_eq}
 use Rattle.plane.specs.Point.{Point}
-use Rattle.rings.specs.Chain.{point_at}
-use Rattle.rings.specs.Simple.{IsSimple}
+use Rattle.rings.specs.Prelude.{IsSimple, point_at}
 use Rattle.hulls.proofs.Order.{AreAhead, IsLeftOn, IsRightOn, ahead_of_left, ahead_of_ray, ordered_ahead}
 use Rattle.hulls.proofs.Outer.LeastBases.{step_of_way}
 use Rattle.hulls.proofs.Outer.Seen.{first_differs, starts_left, starts_right, starts_there, HasWay}

@@ -6,11 +6,8 @@ use Rattle.plane.proofs.Order.{point_or_other}
 use Rattle.plane.proofs.Points.{whole_is_point}
 use Rattle.plane.proofs.Segments.{nearer_each, nearer_on, on_last_end, on_is_straight, on_total}
 use Rattle.plane.proofs.Turns.{determinant_same_ends, determinant_same_last}
-use Rattle.plane.specs.Point.{Point, whole}
-use Rattle.plane.specs.Segment.{On}
-use Rattle.plane.specs.Turn.{IsLeft}
-use Rattle.rings.specs.Chain.{IsBentChain}
-use Rattle.rings.specs.Simple.{IsSimple}
+use Rattle.plane.specs.Prelude.{IsLeft, On, Point, whole}
+use Rattle.rings.specs.Prelude.{IsBentChain, IsSimple}
 use Rattle.funnels.proofs.Bends.{on_ray_back, turning_from_ray, turning_to_ray}
 use Rattle.hulls.proofs.Joined.{rest_bent}
 use Rattle.hulls.proofs.Order.{HasFirst, IsLeftOf, TurnsLeft, first_of_other, left_of_alike, right_of_alike}

@@ -11,18 +11,11 @@ use Rattle.plane.proofs.Order.{after, before, before_asym, before_or_not, before
 use Rattle.plane.proofs.Points.{whole_is_point}
 use Rattle.plane.proofs.Segments.{not_before_both}
 use Rattle.plane.proofs.Turns.{written_determinant}
-use Rattle.plane.specs.Order.{IsBefore}
-use Rattle.plane.specs.Point.{Point, whole}
-use Rattle.plane.specs.Segment.{On}
-use Rattle.plane.specs.Turn.{determinant}
+use Rattle.plane.specs.Prelude.{determinant, IsBefore, On, Point, whole}
 use Rattle.rings.proofs.Inside.{vertex_in}
 use Rattle.rings.proofs.Sweeps.{precedes_whole}
 use Rattle.rings.proofs.Vertices.{vertex_in_range}
-use Rattle.rings.specs.Bend.{IsReflexVertex}
-use Rattle.rings.specs.Chain.{point_at, IsPath}
-use Rattle.rings.specs.Inside.{IsIn}
-use Rattle.rings.specs.Ring.{origin, vertex}
-use Rattle.rings.specs.Simple.{IsSimple}
+use Rattle.rings.specs.Prelude.{IsIn, IsPath, IsReflexVertex, IsSimple, origin, point_at, vertex}
 use Rattle.ring_laws.proofs.Simple.{simple_ring_law}
 use Rattle.hulls.proofs.Entrances.{paths}
 use Rattle.hulls.proofs.Joined.{at_first, at_second, both_length, path_is_taut, joined_of_on_path}

@@ -2,9 +2,7 @@
 use Rattle.std.proofs.Common.{◌≢◌, inl, inr, sym, subst, ap, ◌∙◌, ℕ, ◌<◌, ◌≤◌, List, length}
 use Rattle.plane.proofs.Order.{point_or_other}
 use Rattle.plane.specs.Point.{Point, whole}
-use Rattle.rings.specs.Chain.{point_at}
-use Rattle.rings.specs.Inside.{IsIn}
-use Rattle.rings.specs.Simple.{IsSimple}
+use Rattle.rings.specs.Prelude.{IsIn, IsSimple, point_at}
 use Rattle.hulls.proofs.Entrances.{paths}
 use Rattle.hulls.proofs.Joined.{joined_of_on_path, on_path_of_joined}
 use Rattle.hulls.proofs.Order.{IsLeftOn, ahead_of_left}

@@ -3,11 +3,8 @@ use Rattle.std.proofs.Common.{◌≡◌, ◌≢◌, inl, inr, refl, sym, subst, 
 use Rattle.plane.proofs.Order.{point_or_other}
 use Rattle.plane.proofs.Points.{whole_is_point}
 use Rattle.plane.proofs.Segments.{on_last_end}
-use Rattle.plane.specs.Point.{Point, whole}
-use Rattle.plane.specs.Segment.{On}
-use Rattle.rings.specs.Bend.{IsBend}
-use Rattle.rings.specs.Chain.{IsBentChain, IsPath, point_at}
-use Rattle.rings.specs.Simple.{IsSimple}
+use Rattle.plane.specs.Prelude.{On, Point, whole}
+use Rattle.rings.specs.Prelude.{IsBend, IsBentChain, IsPath, IsSimple, point_at}
 use Rattle.meshes.proofs.Sight.{sees_before}
 use Rattle.funnels.proofs.Bends.{on_ray_back}
 use Rattle.funnels.proofs.Chains.{one_bent}

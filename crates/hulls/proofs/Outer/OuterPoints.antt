@@ -4,8 +4,7 @@ use Rattle.std.proofs.Common.{◌≢◌, ◌⊎◌, inl, inr, sym, ℕ, ◌<◌,
 use Rattle.std.proofs.lemmas.Bool.{cases_eq}
 use Rattle.plane.proofs.Order.{point_or_other}
 use Rattle.plane.specs.Point.{Point}
-use Rattle.rings.specs.Chain.{point_at}
-use Rattle.rings.specs.Simple.{IsSimple}
+use Rattle.rings.specs.Prelude.{IsSimple, point_at}
 use Rattle.hulls.proofs.Entrances.{paths}
 use Rattle.hulls.proofs.Outer.Lasts.{some_or_none}
 use Rattle.hulls.proofs.Outer.LeastBases.{points_differ, way_to, IsBase, IsLastSeen, IsOther, last_seen, least_base, least_point}

@@ -4,11 +4,8 @@ use Rattle.std.proofs.Common.{◌≢◌, ◌⊎◌, inl, inr, sym, subst, ap, �
 use Rattle.plane.proofs.Points.{whole_is_point, same_whole}
 use Rattle.plane.proofs.Segments.{on_or_not, on_antisym, on_is_straight, on_last_end, on_reversed}
 use Rattle.plane.proofs.Turns.{straight_swap_last}
-use Rattle.plane.specs.Point.{Point, whole}
-use Rattle.plane.specs.Segment.{On}
-use Rattle.plane.specs.Turn.{IsStraight}
-use Rattle.rings.specs.Chain.{IsBentChain, IsPath, point_at}
-use Rattle.rings.specs.Simple.{IsSimple}
+use Rattle.plane.specs.Prelude.{IsStraight, On, Point, whole}
+use Rattle.rings.specs.Prelude.{IsBentChain, IsPath, IsSimple, point_at}
 use Rattle.funnels.proofs.OneChain.{last_of}
 use Rattle.hulls.proofs.Cones.{ahead_of_none, joined_back}
 use Rattle.hulls.proofs.Joined.{path_is_taut}

@@ -3,8 +3,7 @@ use Rattle.std.proofs.Common.{◌≡◌, ◌⊎◌, inl, inr, subst, List}
 use Rattle.plane.proofs.Order.{point_or_other}
 use Rattle.plane.proofs.Points.{same_sym, whole_is_point}
 use Rattle.plane.proofs.Segments.{on_antisym, on_first_end, on_nested, on_reversed, on_same_point, on_total}
-use Rattle.plane.specs.Point.{IsSame, Point, Triple, whole}
-use Rattle.plane.specs.Segment.{On}
+use Rattle.plane.specs.Prelude.{IsSame, On, Point, Triple, whole}
 use Rattle.rings.specs.Full.{IsVertexBetween}
 use Rattle.hulls.proofs.Entrances.{IsBetween, IsNamed, between_back}
 

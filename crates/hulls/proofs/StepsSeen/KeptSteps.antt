@@ -4,26 +4,21 @@ use Rattle.std.proofs.Common.{◌≡◌, ◌⊎◌, inl, inr, refl, sym, subst, 
 use Rattle.std.specs.List.{range_with_len}
 use Rattle.plane.proofs.Points.{whole_is_point}
 use Rattle.plane.proofs.Segments.{on_same_point}
-use Rattle.plane.specs.Point.{IsPoint, Point, Triple, whole}
-use Rattle.plane.specs.Segment.{On}
+use Rattle.plane.specs.Prelude.{IsPoint, On, Point, Triple, whole}
 use Rattle.rings.proofs.Inside.{sees_turned_iff}
 use Rattle.rings.proofs.Simple.{same_or_not}
 use Rattle.rings.proofs.Turned.{between_turned}
 use Rattle.rings.specs.From.{IsPredecessor}
 use Rattle.rings.specs.Full.{IsVertexBetween}
-use Rattle.rings.specs.Inside.{IsIn}
-use Rattle.rings.specs.Orientation.{turned_round}
-use Rattle.rings.specs.Ring.{vertex}
-use Rattle.rings.specs.Sees.{Sees}
+use Rattle.rings.specs.Prelude.{IsIn, Sees, turned_round, vertex}
 use Rattle.ring_laws.proofs.Simple.{kept_ring}
 use Rattle.meshes.proofs.Parts.{paved, side_in}
 use Rattle.meshes.proofs.Sides.{ends_below}
 use Rattle.meshes.proofs.Sight.{sleeve_law}
 use Rattle.meshes.proofs.Triangulations.{triangulation}
-use Rattle.meshes.specs.Fits.{Fits, IsInTri, IsSideOfTwo}
-use Rattle.meshes.specs.Laws.{walk_tri}
-use Rattle.meshes.specs.Side.{HasSide, HasSideBetween, IsWalk, tri_at}
+use Rattle.meshes.specs.Prelude.{Fits, HasSide, HasSideBetween, IsInTri, IsSideOfTwo, IsWalk, tri_at}
 use Rattle.meshes.specs.declared.tri.Tri.{Tri}
+use Rattle.meshes.specs.Laws.{walk_tri}
 use Rattle.funnels.proofs.DeadEnds.{some_triangle}
 use Rattle.hulls.proofs.Entrances.{Entrance, IsBetween, IsTrail, crosses, last_of, side_crossed, in_kept, of_kept, path_turned, trail_to}
 use Rattle.hulls.proofs.StepsSeen.InnerPoints.{not_named}

@@ -7,9 +7,7 @@ use Rattle.integer_algebra.proofs.SignSteps.{negative_not_zero, positive_not_neg
 use Rattle.integer_algebra.proofs.Signs.{mul_negative, mul_negative_cases, mul_positive}
 use Rattle.plane.proofs.Turns.{combination_of_ends, determinant_along_first, determinant_same_ends, determinant_shift, determinant_swap_last}
 use Rattle.plane.specs.Beside.{IsBeside}
-use Rattle.plane.specs.Point.{IsPoint, Point, Triple, whole}
-use Rattle.plane.specs.Segment.{On}
-use Rattle.plane.specs.Turn.{IsRight, IsStraight, determinant}
+use Rattle.plane.specs.Prelude.{determinant, IsPoint, IsRight, IsStraight, On, Point, Triple, whole}
 
 -- ---- two points of a segment
 

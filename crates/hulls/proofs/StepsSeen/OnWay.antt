@@ -11,16 +11,12 @@ use Rattle.plane.proofs.Points.{whole_is_point}
 use Rattle.plane.proofs.Segments.{on_first_end, on_is_straight, middle, middle_first, middle_is_point, middle_last, middle_on, on_reversed}
 use Rattle.plane.proofs.Segments.{on_last_end}
 use Rattle.plane.proofs.Turns.{determinant_swap_first}
-use Rattle.plane.specs.Point.{Point, Triple, whole}
-use Rattle.plane.specs.Segment.{On}
-use Rattle.plane.specs.Turn.{IsStraight, determinant}
-use Rattle.rings.specs.Chain.{point_at}
+use Rattle.plane.specs.Prelude.{determinant, IsStraight, On, Point, Triple, whole}
+use Rattle.rings.specs.Prelude.{point_at, vertex}
 use Rattle.rings.specs.From.{IsPredecessor}
 use Rattle.rings.specs.Full.{IsVertexBetween}
-use Rattle.rings.specs.Ring.{vertex}
 use Rattle.ring_laws.proofs.Triangles.{between_in_triangle}
-use Rattle.meshes.specs.Fits.{Fits, IsInTri}
-use Rattle.meshes.specs.Side.{tri_at}
+use Rattle.meshes.specs.Prelude.{Fits, IsInTri, tri_at}
 use Rattle.meshes.specs.declared.tri.Tri.{Tri}
 use Rattle.hulls.proofs.Entrances.{Entrance, IsBetween, IsGate, IsNamed, IsTrail, before_gate, has_gate, last_of, between_back}
 use Rattle.hulls.proofs.Joined.{path_is_taut}

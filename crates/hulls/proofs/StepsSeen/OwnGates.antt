@@ -9,15 +9,10 @@ use Rattle.plane.proofs.Lists.{in_range}
 use Rattle.plane.proofs.Points.{whole_is_point}
 use Rattle.plane.proofs.Segments.{on_reversed}
 use Rattle.plane.proofs.Turns.{determinant_same_ends, determinant_same_last, determinant_swap_first}
-use Rattle.plane.specs.Point.{IsPoint, Point, Triple, whole}
-use Rattle.plane.specs.Segment.{On}
-use Rattle.plane.specs.Triangle.{height_over}
-use Rattle.plane.specs.Turn.{IsLeft, IsRight}
-use Rattle.rings.specs.Chain.{point_at}
-use Rattle.rings.specs.Ring.{vertex}
+use Rattle.plane.specs.Prelude.{height_over, IsLeft, IsPoint, IsRight, On, Point, Triple, whole}
+use Rattle.rings.specs.Prelude.{point_at, vertex}
 use Rattle.meshes.proofs.Sight.{not_right_of_side}
-use Rattle.meshes.specs.Fits.{Fits, IsInTri}
-use Rattle.meshes.specs.Side.{tri_at}
+use Rattle.meshes.specs.Prelude.{Fits, IsInTri, tri_at}
 use Rattle.meshes.specs.declared.tri.Tri.{Tri}
 use Rattle.funnels.proofs.Corners.{end_of_its_side}
 use Rattle.funnels.proofs.Funnels.{left_of_apex, not_negative, right_of_apex}

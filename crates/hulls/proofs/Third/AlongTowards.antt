@@ -4,11 +4,8 @@
 -- Of three free points, where c is to a side of b, seen from a, b is to that side of a, seen from c.
 use Rattle.std.proofs.Common.{subst, ◌≤◌, List, [], ◌∷◌, length, ◌≡◌, ◌⊎◌, inl, inr, refl, sym, ◌∙◌, ◌-◌, arith}
 use Rattle.std.proofs.lemmas.Bool.{cases_lt}
-use Rattle.plane.specs.Point.{Point, Triple, whole}
-use Rattle.plane.specs.Turn.{IsLeft, IsRight}
-use Rattle.rings.specs.Chain.{IsPath, point_at}
-use Rattle.rings.specs.Inside.{IsIn}
-use Rattle.rings.specs.Simple.{IsSimple}
+use Rattle.plane.specs.Prelude.{IsLeft, IsRight, Point, Triple, whole}
+use Rattle.rings.specs.Prelude.{IsIn, IsPath, IsSimple, point_at}
 use Rattle.hulls.proofs.Cones.{joined_back}
 use Rattle.hulls.proofs.Joined.{path_is_taut}
 use Rattle.hulls.proofs.StepsSeen.{steps}

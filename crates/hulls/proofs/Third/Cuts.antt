@@ -8,11 +8,8 @@ use Rattle.plane.proofs.Order.{point_or_other}
 use Rattle.plane.proofs.Points.{whole_is_point}
 use Rattle.plane.proofs.Segments.{on_first_end, on_reversed}
 use Rattle.plane.specs.Point.{Point, whole}
-use Rattle.rings.specs.Bend.{IsBend}
-use Rattle.rings.specs.Chain.{IsBentChain, IsPath, point_at}
+use Rattle.rings.specs.Prelude.{IsBend, IsBentChain, IsIn, IsPath, IsSimple, point_at}
 use Rattle.rings.specs.From.{IsPredecessor}
-use Rattle.rings.specs.Inside.{IsIn}
-use Rattle.rings.specs.Simple.{IsSimple}
 use Rattle.funnels.proofs.Chains.{one_bent}
 use Rattle.funnels.proofs.OneChain.{bent_is_path, last_of}
 use Rattle.hulls.proofs.Cones.{IsBetween}

@@ -3,9 +3,7 @@ use Rattle.std.proofs.Common.{◌≢◌, inl, inr, true, sym, subst, List}
 use Rattle.plane.proofs.Points.{same_whole, whole_is_point}
 use Rattle.plane.proofs.Segments.{later_between, on_antisym, on_first_end, on_is_straight, on_nested, on_reversed, on_total}
 use Rattle.plane.proofs.Turns.{straight_shift_back, straight_swap_last}
-use Rattle.plane.specs.Point.{Point, whole}
-use Rattle.plane.specs.Segment.{On}
-use Rattle.plane.specs.Turn.{IsStraight}
+use Rattle.plane.specs.Prelude.{IsStraight, On, Point, whole}
 use Rattle.funnels.proofs.Bends.{AreOnRay, on_ray_back, turning_to_ray}
 use Rattle.funnels.proofs.OneChain.{bend_from_ray}
 use Rattle.funnels.proofs.Touched.{only_point}

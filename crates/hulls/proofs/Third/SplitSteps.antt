@@ -5,12 +5,8 @@ use Rattle.std.proofs.lemmas.Bool.{cases_lt}
 use Rattle.plane.proofs.Order.{point_or_other}
 use Rattle.plane.proofs.Points.{same_whole, whole_is_point}
 use Rattle.plane.proofs.Segments.{nearer_on, on_antisym, on_last_end, on_or_not, on_reversed}
-use Rattle.plane.specs.Point.{Point, whole}
-use Rattle.plane.specs.Segment.{On}
-use Rattle.rings.specs.Chain.{IsBentChain, IsPath, point_at}
-use Rattle.rings.specs.Inside.{IsIn}
-use Rattle.rings.specs.Ring.{vertex}
-use Rattle.rings.specs.Sees.{Sees}
+use Rattle.plane.specs.Prelude.{On, Point, whole}
+use Rattle.rings.specs.Prelude.{IsBentChain, IsIn, IsPath, point_at, Sees, vertex}
 use Rattle.meshes.proofs.Sight.{sees_before}
 use Rattle.funnels.proofs.OneChain.{last_of}
 use Rattle.hulls.proofs.Cones.{IsBetween, between_back, joined_back}

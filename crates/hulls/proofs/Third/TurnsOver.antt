@@ -5,11 +5,8 @@ use Rattle.integer_algebra.proofs.SignSteps.{negative_not_zero, positive_not_neg
 use Rattle.plane.proofs.Points.{same_whole, whole_is_point}
 use Rattle.plane.proofs.Segments.{on_reversed, on_is_straight, on_last_end, on_nested, on_one_ray}
 use Rattle.plane.proofs.Turns.{determinant_shift, determinant_swap_last, straight_swap_last}
-use Rattle.plane.specs.Point.{Point, Triple, whole}
-use Rattle.plane.specs.Segment.{On}
-use Rattle.plane.specs.Turn.{IsLeft, IsRight, IsStraight}
-use Rattle.rings.specs.Chain.{IsPath}
-use Rattle.rings.specs.Simple.{IsSimple}
+use Rattle.plane.specs.Prelude.{IsLeft, IsRight, IsStraight, On, Point, Triple, whole}
+use Rattle.rings.specs.Prelude.{IsPath, IsSimple}
 use Rattle.funnels.proofs.Bends.{AreOnRay, on_ray_back, turning_from_ray, turning_to_ray}
 use Rattle.hulls.proofs.Cones.{IsBetween}
 use Rattle.hulls.proofs.Joined.{path_is_taut}

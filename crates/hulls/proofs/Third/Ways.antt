@@ -5,9 +5,7 @@ use Rattle.std.proofs.Common.{◌≢◌, refl, sym, subst, ◌≤◌, List, [], 
 use Rattle.plane.proofs.Points.{whole_is_point}
 use Rattle.plane.proofs.Segments.{on_last_end, on_is_straight, on_first_end}
 use Rattle.plane.proofs.Turns.{straight_swap_first, straight_swap_last}
-use Rattle.plane.specs.Point.{Point, whole, Triple}
-use Rattle.plane.specs.Segment.{On}
-use Rattle.plane.specs.Turn.{IsLeft, IsRight, IsStraight}
+use Rattle.plane.specs.Prelude.{IsLeft, IsRight, IsStraight, On, Point, Triple, whole}
 use Rattle.rings.specs.From.{IsPredecessor}
 use Rattle.rings.specs.Simple.{IsSimple}
 use Rattle.funnels.proofs.Chains.{one_bent}

@@ -7,10 +7,8 @@ use Rattle.plane.proofs.Order.{point_or_other}
 use Rattle.plane.proofs.Points.{same_whole, whole_is_point}
 use Rattle.plane.proofs.Segments.{on_antisym, on_is_straight}
 use Rattle.plane.proofs.Turns.{determinant_swap_last, straight_swap_last}
-use Rattle.plane.specs.Point.{Point, Triple, whole}
-use Rattle.plane.specs.Segment.{On}
-use Rattle.plane.specs.Turn.{IsLeft, IsRight, IsStraight}
-use Rattle.rings.specs.Chain.{point_at, IsPath}
+use Rattle.plane.specs.Prelude.{IsLeft, IsRight, IsStraight, On, Point, Triple, whole}
+use Rattle.rings.specs.Chain.{IsPath, point_at}
 use Rattle.hulls.proofs.Order.{same_first}
 use Rattle.hulls.specs.Turning.{IsTo, IsToLeft, IsToRight, TurnsTo, apart, first_nearer, second_nearer}
 

@@ -10,12 +10,8 @@ use Rattle.plane.proofs.Order.{NotAfter, not_after_of_precedes, not_after_or_pre
 use Rattle.plane.proofs.Points.{whole_is_point}
 use Rattle.plane.proofs.Segments.{on_from_order, on_reversed, stays_left, stays_right, on_first_end}
 use Rattle.plane.proofs.Turns.{straight_shift, straight_swap_first, straight_swap_last, determinant_same_ends}
-use Rattle.plane.specs.Point.{Point, whole, Triple}
-use Rattle.plane.specs.Segment.{On}
-use Rattle.plane.specs.Turn.{IsStraight, IsLeft, IsRight, determinant}
-use Rattle.rings.specs.Bend.{IsBend}
-use Rattle.rings.specs.Chain.{IsBentChain, point_at, IsPath}
-use Rattle.rings.specs.Simple.{IsSimple}
+use Rattle.plane.specs.Prelude.{determinant, IsLeft, IsRight, IsStraight, On, Point, Triple, whole}
+use Rattle.rings.specs.Prelude.{IsBend, IsBentChain, IsPath, IsSimple, point_at}
 use Rattle.funnels.proofs.OneChain.{bend_back}
 use Rattle.hulls.proofs.Cones.{joined_one_side}
 use Rattle.hulls.proofs.Joined.{at_first, at_second, both_length, on_path_of_joined, path_is_taut}

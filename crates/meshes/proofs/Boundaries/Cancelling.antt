@@ -3,8 +3,7 @@ use Rattle.std.proofs.Common.{◌≡◌, inl, inr, refl, sym, ap, subst, ◌∙�
 use Rattle.std.proofs.lemmas.Int.{ints}
 use Rattle.plane.specs.Point.{Point}
 use Rattle.rings.proofs.Vertices.{number_of}
-use Rattle.rings.specs.Edge.{Has}
-use Rattle.rings.specs.Simple.{IsSimple}
+use Rattle.rings.specs.Prelude.{Has, IsSimple}
 use Rattle.meshes.proofs.Boundaries.Rounds.{first_after, last_before, sum_rotated, sum_with_vertex}
 use Rattle.meshes.proofs.Boundaries.Sums.{sum_of_tri}
 use Rattle.meshes.proofs.Ears.{ear_law, is_rest}
@@ -12,10 +11,9 @@ use Rattle.meshes.proofs.Joins.{edge_rotated, fits_rotated}
 use Rattle.meshes.proofs.Sides.{edge_of_step, one_number, step_of_edge}
 use Rattle.meshes.proofs.TreeLeaves.{by_turns, leaves_law}
 use Rattle.meshes.specs.Boundary.{IsOdd, SidesCancelLaw, sum_round, sum_sides}
-use Rattle.meshes.specs.Fits.{FitsPiece, IsPieceEdge, piece_points}
-use Rattle.meshes.specs.Laws.{IsEarOff, without}
-use Rattle.meshes.specs.Side.{HasSide, tri_at}
+use Rattle.meshes.specs.Prelude.{FitsPiece, HasSide, IsPieceEdge, piece_points, tri_at}
 use Rattle.meshes.specs.declared.tri.Tri.{Tri}
+use Rattle.meshes.specs.Laws.{IsEarOff, without}
 
 -- ---- numbers
 

@@ -4,14 +4,11 @@ use Rattle.std.proofs.Common.{◌≡◌, ◌⊎◌, inl, inr, refl, sym, subst, 
 use Rattle.std.proofs.Common.{le_refl}
 use Rattle.std.proofs.lemmas.Int.{ints}
 use Rattle.plane.proofs.Nearness.{toward, toward_is_point}
-use Rattle.plane.specs.Point.{IsPoint, Point, Triple, whole}
-use Rattle.plane.specs.Segment.{On}
+use Rattle.plane.specs.Prelude.{IsPoint, On, Point, Triple, whole}
 use Rattle.rings.proofs.Crossings.{crossings_odd, winding_odd}
 use Rattle.rings.proofs.Inside.{on_some_or_not}
 use Rattle.rings.proofs.Vertices.{closed_edges_of}
-use Rattle.rings.specs.Edge.{IsOnSome, edges_along, edges_of}
-use Rattle.rings.specs.Inside.{IsIn, winding}
-use Rattle.rings.specs.Ring.{vertex}
+use Rattle.rings.specs.Prelude.{edges_along, edges_of, IsIn, IsOnSome, vertex, winding}
 use Rattle.ring_laws.proofs.Triangles.{in_or_not}
 use Rattle.meshes.proofs.Boundaries.OffEdges.{both_open, left_open, off_edges, wound_open}
 use Rattle.meshes.proofs.Boundaries.Overlaps.{all_proper, all_sides, off_sides, turns_left_at, no_overlap}
@@ -22,11 +19,10 @@ use Rattle.meshes.proofs.Boundaries.Windings.{AreBounded, crossing_at, sum_insid
 use Rattle.meshes.proofs.Parts.{IsLeftOfAll, inside_sides, left_of_sides, mean, mean_inside, mean_is_point, opposite, sides, toward_inside}
 use Rattle.meshes.proofs.Sides.{IsStep, edge_of_step}
 use Rattle.meshes.specs.Boundary.{HaveBoundary}
-use Rattle.meshes.specs.Fits.{IsInTri, IsPieceEdge, IsStrictlyInTri, piece_points, IsTriOf}
-use Rattle.meshes.specs.Piece.{IsPolygonPiece}
-use Rattle.meshes.specs.Side.{tri_at}
-use Rattle.meshes.specs.Tiling.{IsTiling}
+use Rattle.meshes.specs.Prelude.{IsInTri, IsPieceEdge, IsStrictlyInTri, IsTriOf, piece_points, tri_at}
 use Rattle.meshes.specs.declared.tri.Tri.{Tri}
+use Rattle.meshes.specs.Piece.{IsPolygonPiece}
+use Rattle.meshes.specs.Tiling.{IsTiling}
 
 -- ---- numbers
 

@@ -8,10 +8,7 @@ use Rattle.plane.proofs.Segments.{middle, middle_on, on_reversed}
 use Rattle.plane.specs.Point.{IsPoint, Point, Triple, whole}
 use Rattle.rings.proofs.Simple.{apart_of_simple}
 use Rattle.rings.specs.Apart.{IsApartRing}
-use Rattle.rings.specs.Edge.{HasEdge, edge, edges_of}
-use Rattle.rings.specs.Inside.{IsIn}
-use Rattle.rings.specs.Ring.{vertex}
-use Rattle.rings.specs.Simple.{IsSimple}
+use Rattle.rings.specs.Prelude.{edge, edges_of, HasEdge, IsIn, IsSimple, vertex}
 use Rattle.ring_laws.proofs.Cuts.{cut_from_first}
 use Rattle.ring_laws.proofs.Diagonals.{AreBoth}
 use Rattle.ring_laws.specs.Diagonal.{IsDiagonal}
@@ -21,8 +18,7 @@ use Rattle.meshes.proofs.Joins.{both_parts, contains_cases, contains_first, cont
 use Rattle.meshes.proofs.Joins.{first_part_cases, part_of_edge, second_diagonal, second_part, second_part_cases}
 use Rattle.meshes.proofs.Parts.{IsCovered, LiesIn, IsShared, last_edge, lies_in_one, not_in_one, ring_apart, shared_is_diagonal}
 use Rattle.meshes.proofs.Sides.{length_points}
-use Rattle.meshes.specs.Fits.{IsPieceEdge, piece_points}
-use Rattle.meshes.specs.Side.{HasSideBetween, tri_at}
+use Rattle.meshes.specs.Prelude.{HasSideBetween, IsPieceEdge, piece_points, tri_at}
 use Rattle.meshes.specs.declared.tri.Tri.{Tri}
 
 -- one of the two parts of a piece that the diagonal between a and b cuts

@@ -7,8 +7,7 @@ use Rattle.plane.proofs.Segments.{left_not_on, on_is_straight, on_last_end, on_o
 use Rattle.plane.specs.Point.{IsPoint, Triple, whole}
 use Rattle.rings.proofs.Crossings.{winding_law}
 use Rattle.rings.proofs.Vertices.{misses_eventually}
-use Rattle.rings.specs.Edge.{Edge, HasEdge, IsClosed, IsOnSome}
-use Rattle.rings.specs.Inside.{winding}
+use Rattle.rings.specs.Prelude.{Edge, HasEdge, IsClosed, IsOnSome, winding}
 use Rattle.ring_laws.proofs.Triangles.{left_of, left_of_is_left}
 use Rattle.meshes.proofs.Parts.{IsLeftOfAll, left_of_all_eventually}
 

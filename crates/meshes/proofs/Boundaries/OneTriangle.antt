@@ -8,7 +8,7 @@ use Rattle.meshes.proofs.Boundaries.TwoParts.{IsTreeFor}
 use Rattle.meshes.proofs.Joins.{contains_cases, edge_places, next_place, place_of}
 use Rattle.meshes.proofs.Sides.{corners_differ}
 use Rattle.meshes.proofs.Walks.{IsPath, Touch}
-use Rattle.meshes.specs.Side.{HasSideBetween, tri_at}
+use Rattle.meshes.specs.Prelude.{HasSideBetween, tri_at}
 use Rattle.meshes.specs.declared.tri.Tri.{Tri}
 
 -- ---- the third corner

@@ -9,16 +9,13 @@ use Rattle.plane.proofs.Segments.{middle, middle_first, middle_is_point, middle_
 use Rattle.plane.specs.Point.{IsPoint, IsSame, Point, Triple, whole}
 use Rattle.rings.proofs.Simple.{apart_of_simple, proper_edges}
 use Rattle.rings.proofs.Vertices.{has_cases, on_some_left, on_some_right}
-use Rattle.rings.specs.Edge.{Edge, IsOnSome, edges_of}
-use Rattle.rings.specs.Inside.{winding}
-use Rattle.rings.specs.Ring.{vertex}
+use Rattle.rings.specs.Prelude.{Edge, edges_of, IsOnSome, vertex, winding}
 use Rattle.meshes.proofs.Boundaries.OffEdges.{AreProper, both_open, left_open, off_edges}
 use Rattle.meshes.proofs.Boundaries.Sums.{AddsAtLeast, sum_with_two}
 use Rattle.meshes.proofs.Boundaries.Windings.{AreBounded, crossing_at, sum_inside, sum_off_sides, winding_is_sum}
 use Rattle.meshes.proofs.Parts.{IsLeftOfAll, inside_sides, left_of_next, left_of_previous, left_of_sides, near_side, opposite, sides}
 use Rattle.meshes.proofs.Sides.{length_points, left_apart, one_direction, corners_differ}
-use Rattle.meshes.specs.Fits.{IsCounterclockwiseTri, IsStrictlyInTri, piece_points}
-use Rattle.meshes.specs.Side.{HasSide, tri_at}
+use Rattle.meshes.specs.Prelude.{HasSide, IsCounterclockwiseTri, IsStrictlyInTri, piece_points, tri_at}
 use Rattle.meshes.specs.declared.tri.Tri.{Tri}
 
 -- ---- the sides of all triangles

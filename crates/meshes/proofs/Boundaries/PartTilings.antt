@@ -6,10 +6,9 @@ use Rattle.meshes.proofs.Joins.{same_rotated, tri_of_same}
 use Rattle.meshes.proofs.Parts.{IsPaved, paved_by_tiling}
 use Rattle.meshes.proofs.Sides.{edge_or_not}
 use Rattle.meshes.proofs.Walks.{IsPlace}
-use Rattle.meshes.specs.Fits.{IsPieceEdge, IsSideOfTwo}
-use Rattle.meshes.specs.Side.{HasSide, HasSideBetween, tri_at}
-use Rattle.meshes.specs.Tiling.{IsTiling}
+use Rattle.meshes.specs.Prelude.{HasSide, HasSideBetween, IsPieceEdge, IsSideOfTwo, tri_at}
 use Rattle.meshes.specs.declared.tri.Tri.{Tri}
+use Rattle.meshes.specs.Tiling.{IsTiling}
 
 -- an edge of the piece goes from one of the numbers to the other
 abbrev pub IsEdgeBetween : List ℕ → ℕ → ℕ → Type 0

@@ -12,8 +12,7 @@ use Rattle.meshes.proofs.Boundaries.Windings.{AreBounded}
 use Rattle.meshes.proofs.Joins.{next_place, next_within}
 use Rattle.meshes.proofs.Sides.{corners_differ, has_side_or_not, one_number}
 use Rattle.meshes.specs.Boundary.{sum_round, sum_sides}
-use Rattle.meshes.specs.Fits.{IsPieceEdge, IsSideOfOne, IsSideOfTwo, piece_points}
-use Rattle.meshes.specs.Side.{HasSide, tri_at}
+use Rattle.meshes.specs.Prelude.{HasSide, IsPieceEdge, IsSideOfOne, IsSideOfTwo, piece_points, tri_at}
 use Rattle.meshes.specs.declared.tri.Tri.{Tri}
 
 -- ---- edges of a piece

@@ -7,8 +7,7 @@ use Rattle.integer_algebra.proofs.SignSteps.{opposite_sum}
 use Rattle.meshes.proofs.Boundaries.Sums.{both_parts, sum_of_tri}
 use Rattle.meshes.proofs.Sides.{IsStep, edge_of_step, step_of_edge}
 use Rattle.meshes.specs.Boundary.{IsOdd, sum_from, sum_round}
-use Rattle.meshes.specs.Fits.{IsPieceEdge}
-use Rattle.meshes.specs.Side.{HasSide}
+use Rattle.meshes.specs.Prelude.{HasSide, IsPieceEdge}
 use Rattle.meshes.specs.declared.tri.Tri.{Tri}
 
 -- ---- one step

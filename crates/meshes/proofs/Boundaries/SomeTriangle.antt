@@ -1,6 +1,6 @@
 -- Some triangle of a list has a property that each has or has not, or none has.
 use Rattle.std.proofs.Common.{◌⊎◌, inl, inr, ℕ, zero, suc, ◌<◌, List, [], ◌∷◌, length, arith}
-use Rattle.meshes.specs.Side.{tri_at}
+use Rattle.meshes.specs.Prelude.{tri_at}
 use Rattle.meshes.specs.declared.tri.Tri.{Tri}
 
 module _ (P : Tri → Type 0) where

@@ -3,7 +3,7 @@ use Rattle.std.proofs.Common.{◌≡◌, ℕ, zero, suc, ◌<◌, ℤ, pos, ◌+
 use Rattle.std.proofs.Math.IntN.{+ℤ_comm}
 use Rattle.std.proofs.lemmas.Int.{ints}
 use Rattle.meshes.specs.Boundary.{sum_sides}
-use Rattle.meshes.specs.Side.{tri_at}
+use Rattle.meshes.specs.Prelude.{tri_at}
 use Rattle.meshes.specs.declared.tri.Tri.{Tri}
 
 -- the sum round one triangle

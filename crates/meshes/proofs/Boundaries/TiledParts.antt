@@ -12,8 +12,7 @@ use Rattle.meshes.proofs.Ears.{edge_ends}
 use Rattle.meshes.proofs.Joins.{between_at, ends_back}
 use Rattle.meshes.proofs.Parts.{IsPaved, IsShared, LiesIn, covered_swapped, end_of_side, ends_in, ends_of_both, lies_in_both, lies_in_one}
 use Rattle.meshes.proofs.Parts.{shared_is_this, side_in, side_numbers, vertex_in_piece}
-use Rattle.meshes.specs.Fits.{IsInTri, IsPieceEdge, IsSideOfTwo, IsTriOf, piece_points}
-use Rattle.meshes.specs.Side.{HasSide, HasSideBetween, tri_at}
+use Rattle.meshes.specs.Prelude.{HasSide, HasSideBetween, IsInTri, IsPieceEdge, IsSideOfTwo, IsTriOf, piece_points, tri_at}
 use Rattle.meshes.specs.declared.tri.Tri.{Tri}
 
 module _ (corners : List Point) (piece : List ℕ) (tris : List Tri) (P : ℕ → Type 0) (tiling : IsPartTiling corners piece tris P)

@@ -15,11 +15,10 @@ use Rattle.meshes.proofs.Joins.{both_parts, contains_cases, edge_rotated, first_
 use Rattle.meshes.proofs.Parts.{IsShared, shared_of, side_numbers}
 use Rattle.meshes.proofs.Sides.{edge_of_step}
 use Rattle.meshes.proofs.Walks.{IsPlace, tree_of_paths}
-use Rattle.meshes.specs.Fits.{FitsPiece, IsPieceEdge, IsSideOfTwo}
-use Rattle.meshes.specs.Piece.{IsPolygonPiece}
-use Rattle.meshes.specs.Side.{HasSideBetween, tri_at}
-use Rattle.meshes.specs.Tiling.{IsTiling}
+use Rattle.meshes.specs.Prelude.{FitsPiece, HasSideBetween, IsPieceEdge, IsSideOfTwo, tri_at}
 use Rattle.meshes.specs.declared.tri.Tri.{Tri}
+use Rattle.meshes.specs.Piece.{IsPolygonPiece}
+use Rattle.meshes.specs.Tiling.{IsTiling}
 
 -- a list at one of its members
 split_member : (xs : List ℕ) (i : ℕ) → Contains xs i → (before : List ℕ) × (after : List ℕ) × (xs ≡ before ++ i ∷ after)

@@ -10,8 +10,7 @@ use Rattle.meshes.proofs.Boundaries.TiledParts.{lies_cases, lies_once}
 use Rattle.meshes.proofs.Joins.{Both, IsBridge, between_at, between_back, joined_tree}
 use Rattle.meshes.proofs.Parts.{IsShared, shared_is_this}
 use Rattle.meshes.proofs.Walks.{IsTreeOn, Touch, share_back, tree_of_same}
-use Rattle.meshes.specs.Fits.{piece_points}
-use Rattle.meshes.specs.Side.{HasSideBetween, ShareSide, tri_at}
+use Rattle.meshes.specs.Prelude.{HasSideBetween, piece_points, ShareSide, tri_at}
 use Rattle.meshes.specs.declared.tri.Tri.{Tri}
 
 -- the triangles with numbers in P are a tree, two fewer than n

@@ -2,20 +2,16 @@
 use Rattle.std.proofs.Common.{◌≡◌, ◌⊎◌, inl, inr, refl, ap, ◌∙◌, ℕ, ◌<◌, ℤ, pos, ◌+ℤ◌, ◌≤ℤ◌, List, [], ◌∷◌, ◌++◌, length, arith}
 use Rattle.std.proofs.lemmas.Int.{ints}
 use Rattle.integer_algebra.proofs.SignSteps.{positive_not_negative}
-use Rattle.plane.specs.Point.{IsPoint, Point, Triple, whole}
-use Rattle.plane.specs.Turn.{IsLeft}
+use Rattle.plane.specs.Prelude.{IsLeft, IsPoint, Point, Triple, whole}
 use Rattle.rings.proofs.Crossings.{crossing_reversed}
-use Rattle.rings.specs.Edge.{IsOnSome, edge, edges_along, edges_of}
-use Rattle.rings.specs.Inside.{crossing, winding}
-use Rattle.rings.specs.Ring.{vertex}
+use Rattle.rings.specs.Prelude.{crossing, edge, edges_along, edges_of, IsOnSome, vertex, winding}
 use Rattle.ring_laws.proofs.Triangles.{inside, on_border, outside, place_of, triangle_values, winding_inside, winding_outside}
 use Rattle.meshes.proofs.Boundaries.Sums.{sum_of_tri}
 use Rattle.meshes.proofs.Parts.{sides}
 use Rattle.meshes.specs.Boundary.{HaveBoundary, IsOdd, sum_from, sum_round, sum_sides}
-use Rattle.meshes.specs.Fits.{IsInTri, IsStrictlyInTri, IsTriOf, piece_points}
-use Rattle.meshes.specs.Piece.{IsPolygonPiece}
-use Rattle.meshes.specs.Side.{tri_at}
+use Rattle.meshes.specs.Prelude.{IsInTri, IsStrictlyInTri, IsTriOf, piece_points, tri_at}
 use Rattle.meshes.specs.declared.tri.Tri.{Tri}
+use Rattle.meshes.specs.Piece.{IsPolygonPiece}
 
 -- counterclockwise triangles on the vertices of a simple piece, whose sides cancel to its boundary
 pub record AreBounded (corners : List Point) (piece : List ℕ) (tris : List Tri) : Type 0 where

@@ -15,11 +15,8 @@ use Rattle.plane.proofs.Turns.{combination_of, determinant_along, determinant_al
 use Rattle.plane.proofs.Turns.{determinant_same_last, determinant_shift, determinant_swap_first, five_triples, straight_shift}
 use Rattle.plane.proofs.Turns.{straight_swap_first, straight_swap_last, IsCombination, areas_add, four_triples_in_W, four_triples_in_X}
 use Rattle.plane.proofs.Turns.{four_triples_in_Y, on_of_combination}
-use Rattle.plane.specs.Point.{IsPoint, IsSame, Point, Triple, whole}
-use Rattle.plane.specs.Segment.{On}
-use Rattle.plane.specs.Turn.{IsLeft, IsRight, IsStraight, determinant}
-use Rattle.rings.specs.Ring.{vertex}
-use Rattle.rings.specs.Sees.{Sees}
+use Rattle.plane.specs.Prelude.{determinant, IsLeft, IsPoint, IsRight, IsSame, IsStraight, On, Point, Triple, whole}
+use Rattle.rings.specs.Prelude.{Sees, vertex}
 use Rattle.ring_laws.proofs.Triangles.{in_or_not}
 use Rattle.meshes.proofs.Cones.RaySigns.{triangle_in_front, ahead, ahead_turn, in_front, in_line, in_line_ahead, in_line_too, beyond_side}
 use Rattle.meshes.proofs.Cones.RaySigns.{not_left_ahead, not_past_left, not_past_right, not_right_ahead}
@@ -28,7 +25,7 @@ use Rattle.meshes.proofs.Cones.SideReach.{IsBeyondSide}
 use Rattle.meshes.proofs.Cones.SideViews.{IsWindow, ReachesSide}
 use Rattle.meshes.proofs.Sight.{sees_before, sees_on}
 use Rattle.meshes.specs.Cone.{Holds, IsSeenThrough, Cone}
-use Rattle.meshes.specs.Fits.{IsInTri}
+use Rattle.meshes.specs.Prelude.{IsInTri}
 use Rattle.meshes.specs.declared.tri.Tri.{Tri}
 
 -- one part of the relation of four points, as two sums

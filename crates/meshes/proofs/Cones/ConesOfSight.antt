@@ -7,11 +7,9 @@ use Rattle.std.specs.Prelude.{Option}
 use Rattle.integer_algebra.proofs.SignSteps.{negative_not_zero, zero_not_negative, zero_not_positive}
 use Rattle.plane.proofs.Points.{whole_is_point}
 use Rattle.plane.proofs.Turns.{determinant_same_first}
-use Rattle.plane.specs.Point.{IsPoint, Point, Triple, whole}
-use Rattle.plane.specs.Segment.{On}
+use Rattle.plane.specs.Prelude.{IsPoint, On, Point, Triple, whole}
 use Rattle.rings.proofs.Vertices.{vertex_mod}
-use Rattle.rings.specs.Ring.{vertex}
-use Rattle.rings.specs.Sees.{Sees}
+use Rattle.rings.specs.Prelude.{Sees, vertex}
 use Rattle.rings.specs.Visible.{IsPart, IsUnseen}
 use Rattle.meshes.proofs.Cones.BeyondSides.{end_cone, side_cone, window_cone}
 use Rattle.meshes.proofs.Cones.Held.{held}
@@ -23,10 +21,9 @@ use Rattle.meshes.proofs.Parts.{side_in, paved}
 use Rattle.meshes.proofs.Sides.{edge_of_one}
 use Rattle.meshes.proofs.Sight.{sees_in_triangle, shared_from}
 use Rattle.meshes.specs.Cone.{Cone, IsConeOf, IsPartEnd, narrowed}
-use Rattle.meshes.specs.Fits.{Fits, IsInTri, IsSideOfOne}
-use Rattle.meshes.specs.Laws.{walk_tri}
-use Rattle.meshes.specs.Side.{HasSide, HasSideBetween, IsWalkBetween, tri_at}
+use Rattle.meshes.specs.Prelude.{Fits, HasSide, HasSideBetween, IsInTri, IsSideOfOne, IsWalkBetween, tri_at}
 use Rattle.meshes.specs.declared.tri.Tri.{Tri}
+use Rattle.meshes.specs.Laws.{walk_tri}
 
 -- the cone in a triangle beyond a side, by the view of the side
 cone_by_view : (corners : List Point) (tris : List Tri) (l : ℕ) (q a b : Point) → IsBeyondSide corners (tri_at tris l) q a b

@@ -3,9 +3,7 @@ use Rattle.std.proofs.Common.{◌≡◌, ◌⊎◌, inl, inr, sym, subst, pos, �
 use Rattle.integer_algebra.proofs.SignSteps.{mean_not_positive, not_both, not_both_positive}
 use Rattle.plane.proofs.Segments.{on_first_end, on_last_end}
 use Rattle.plane.proofs.Turns.{combination_of, determinant_along}
-use Rattle.plane.specs.Point.{IsPoint, Point, Triple, whole}
-use Rattle.plane.specs.Segment.{On}
-use Rattle.plane.specs.Turn.{determinant}
+use Rattle.plane.specs.Prelude.{determinant, IsPoint, On, Point, Triple, whole}
 use Rattle.ring_laws.proofs.Triangles.{not_right_between}
 use Rattle.meshes.specs.Cone.{Cone, Holds}
 

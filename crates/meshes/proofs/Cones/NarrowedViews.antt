@@ -9,9 +9,7 @@ use Rattle.integer_algebra.proofs.Signs.{is_negative, is_positive, is_zero, sign
 use Rattle.plane.proofs.Points.{whole_is_point}
 use Rattle.plane.proofs.Segments.{on_first_end, on_last_end, stays_left, stays_right}
 use Rattle.plane.proofs.Turns.{determinant_same_last, determinant_swap_last, five_triples}
-use Rattle.plane.specs.Point.{IsPoint, Point, Triple, whole}
-use Rattle.plane.specs.Segment.{On}
-use Rattle.plane.specs.Turn.{IsLeft, IsRight, determinant, IsStraight}
+use Rattle.plane.specs.Prelude.{determinant, IsLeft, IsPoint, IsRight, IsStraight, On, Point, Triple, whole}
 use Rattle.rings.specs.Sees.{Sees}
 use Rattle.ring_laws.proofs.Triangles.{not_right_between}
 use Rattle.meshes.proofs.Cones.Held.{not_left_between, held_between}
@@ -20,8 +18,7 @@ use Rattle.meshes.proofs.Cones.RaySigns.{left_too, not_left_too, not_right_too, 
 use Rattle.meshes.proofs.Cones.SideViews.{IsWindow, ReachesSide, IsFacing, SideView, beyond_view, hidden, side_seen, through_window}
 use Rattle.meshes.proofs.Cones.SideViews.{whole_side}
 use Rattle.meshes.specs.Cone.{Cone, Holds, narrowed_left, narrowed_right, IsConeOf, IsSeenThrough, narrowed}
-use Rattle.meshes.specs.Fits.{IsInTri}
-use Rattle.meshes.specs.Side.{tri_at}
+use Rattle.meshes.specs.Prelude.{IsInTri, tri_at}
 use Rattle.meshes.specs.declared.tri.Tri.{Tri}
 
 -- ---- orders

@@ -5,8 +5,7 @@ use Rattle.std.proofs.lemmas.Int.{ints}
 use Rattle.std.specs.Int.Signed.{lt_z}
 use Rattle.std.specs.Prelude.{◌||◌, if◌then◌else◌, Option}
 use Rattle.integer_algebra.proofs.SignSteps.{not_both, not_both_positive}
-use Rattle.plane.specs.Point.{Point, whole}
-use Rattle.plane.specs.Turn.{IsLeft, IsRight, determinant}
+use Rattle.plane.specs.Prelude.{determinant, IsLeft, IsRight, Point, whole}
 use Rattle.meshes.specs.Cone.{Cone, Holds, is_left, is_off, is_right, narrowed, narrowed_left, narrowed_right, ray_to_end}
 
 -- ---- tests

@@ -11,9 +11,7 @@ use Rattle.plane.proofs.Segments.{combination_of_same, later_between, on_first_e
 use Rattle.plane.proofs.Turns.{IsCombination, determinant_along, on_of_combination, combination_of, determinant_same, determinant_same_last}
 use Rattle.plane.proofs.Turns.{determinant_swap_last, five_triples, straight_swap_last}
 use Rattle.plane.specs.Line.{cross_product}
-use Rattle.plane.specs.Point.{IsPoint, IsSame, Point, Triple, whole}
-use Rattle.plane.specs.Segment.{On}
-use Rattle.plane.specs.Turn.{IsStraight, determinant, IsRight}
+use Rattle.plane.specs.Prelude.{determinant, IsPoint, IsRight, IsSame, IsStraight, On, Point, Triple, whole}
 use Rattle.rings.specs.Sees.{Sees}
 use Rattle.ring_laws.proofs.Triangles.{not_right_between}
 use Rattle.meshes.proofs.Cones.Held.{end_on_side, held_between, not_left_between}

@@ -9,11 +9,10 @@ use Rattle.integer_algebra.proofs.SignSteps.{positive_not_zero, weak, weak_order
 use Rattle.integer_algebra.proofs.Signs.{factor_negative, factor_nonnegative, factor_nonpositive, factor_positive, factor_zero, lt_or_le}
 use Rattle.integer_algebra.proofs.Signs.{mul_negative, mul_negatives, mul_nonnegative, mul_nonpositive, mul_nonpositives, mul_positive}
 use Rattle.plane.proofs.Turns.{written_determinant}
-use Rattle.plane.specs.Point.{IsPoint, Point, Triple, whole}
-use Rattle.plane.specs.Turn.{IsLeft, IsRight, determinant}
+use Rattle.plane.specs.Prelude.{determinant, IsLeft, IsPoint, IsRight, Point, Triple, whole}
 use Rattle.rings.specs.Ring.{vertex}
 use Rattle.ring_laws.proofs.Triangles.{in_triangle}
-use Rattle.meshes.specs.Fits.{IsInTri}
+use Rattle.meshes.specs.Prelude.{IsInTri}
 use Rattle.meshes.specs.declared.tri.Tri.{Tri}
 
 -- ---- a bound and the two ends of a side, all in front

@@ -8,19 +8,15 @@ use Rattle.integer_algebra.proofs.SignSteps.{at_least_unless, turned_not_positiv
 use Rattle.plane.proofs.Points.{whole_is_point}
 use Rattle.plane.proofs.Segments.{first_end_on_line, on_is_straight, on_reversed, on_same_point}
 use Rattle.plane.proofs.Turns.{determinant_same_ends, determinant_same_last, determinant_swap_first}
-use Rattle.plane.specs.Point.{IsPoint, IsSame, Point, Triple, whole}
-use Rattle.plane.specs.Segment.{Meet, On}
-use Rattle.plane.specs.Turn.{IsRight, IsStraight, determinant}
-use Rattle.rings.specs.Ring.{vertex}
-use Rattle.rings.specs.Sees.{Sees}
+use Rattle.plane.specs.Prelude.{determinant, IsPoint, IsRight, IsSame, IsStraight, Meet, On, Point, Triple, whole}
+use Rattle.rings.specs.Prelude.{Sees, vertex}
 use Rattle.ring_laws.proofs.Triangles.{on_first_side}
 use Rattle.meshes.proofs.Parts.{opposite, side_in, paved}
 use Rattle.meshes.proofs.Sight.{not_right_of_side, sees_before, sees_in_triangle, sees_on, sleeve_law}
 use Rattle.meshes.proofs.TreeLeaves.{closed_of_sides, next_corner, side_is_one, turns_left}
-use Rattle.meshes.specs.Fits.{Fits, IsInTri}
-use Rattle.meshes.specs.Laws.{CrossesSide, walk_tri}
-use Rattle.meshes.specs.Side.{HasSide, HasSideBetween, IsWalkBetween, tri_at}
+use Rattle.meshes.specs.Prelude.{Fits, HasSide, HasSideBetween, IsInTri, IsWalkBetween, tri_at}
 use Rattle.meshes.specs.declared.tri.Tri.{Tri}
+use Rattle.meshes.specs.Laws.{CrossesSide, walk_tri}
 
 -- on the way from q to x there is a point of the side from r to l that q sees
 pub record IsSeenOver (corners : List Point) (q l r : Point) (x : Triple) : Type 0 where

@@ -4,14 +4,12 @@ use Rattle.std.specs.Prelude.{Option}
 use Rattle.plane.proofs.Points.{same_sym, same_trans, whole_is_point}
 use Rattle.plane.proofs.Segments.{on_first_end, on_last_end, on_same_point}
 use Rattle.plane.proofs.Turns.{determinant_shift}
-use Rattle.plane.specs.Point.{IsPoint, IsSame, Point, Triple, whole}
-use Rattle.plane.specs.Segment.{On}
-use Rattle.plane.specs.Turn.{IsLeft, IsRight, IsStraight, determinant}
+use Rattle.plane.specs.Prelude.{determinant, IsLeft, IsPoint, IsRight, IsSame, IsStraight, On, Point, Triple, whole}
 use Rattle.rings.specs.Sees.{Sees}
 use Rattle.meshes.proofs.Cones.Narrowing.{ray_to_end_by}
 use Rattle.meshes.proofs.Sight.{sees_before}
 use Rattle.meshes.specs.Cone.{Cone, Holds, IsSeenThrough, ray_to_end}
-use Rattle.meshes.specs.Fits.{IsInTri}
+use Rattle.meshes.specs.Prelude.{IsInTri}
 use Rattle.meshes.specs.declared.tri.Tri.{Tri}
 
 -- ---- views of a side

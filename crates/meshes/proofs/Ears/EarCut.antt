@@ -3,10 +3,8 @@ use Rattle.std.proofs.Common.{◌≡◌, inl, inr, sym, ℕ, ◌<◌, List, [], 
 use Rattle.plane.proofs.Nearness.{toward, toward_is_point}
 use Rattle.plane.proofs.Points.{whole_is_point}
 use Rattle.plane.proofs.Segments.{on_reversed}
-use Rattle.plane.specs.Point.{IsPoint, Point, Triple, whole}
-use Rattle.plane.specs.Turn.{IsLeft}
-use Rattle.rings.specs.Inside.{IsIn}
-use Rattle.rings.specs.Ring.{vertex}
+use Rattle.plane.specs.Prelude.{IsLeft, IsPoint, Point, Triple, whole}
+use Rattle.rings.specs.Prelude.{IsIn, vertex}
 use Rattle.ring_laws.proofs.Cuts.{cut_from_first}
 use Rattle.ring_laws.proofs.Diagonals.{diagonal_backward}
 use Rattle.ring_laws.proofs.Triangles.{in_of_in_triangle, in_triangle_of_in, middle_in_triangle}
@@ -17,10 +15,9 @@ use Rattle.meshes.proofs.Parts.{mean_is_point, sides, toward_inside, end_of_side
 use Rattle.meshes.proofs.Parts.{lies_in_one}
 use Rattle.meshes.proofs.TreeLeaves.{closed_by_sides, turns_left}
 use Rattle.meshes.proofs.Walks.{IsPlace}
-use Rattle.meshes.specs.Fits.{FitsPiece, IsInTri, piece_points}
-use Rattle.meshes.specs.Laws.{IsEar}
-use Rattle.meshes.specs.Side.{tri_at}
+use Rattle.meshes.specs.Prelude.{FitsPiece, IsInTri, piece_points, tri_at}
 use Rattle.meshes.specs.declared.tri.Tri.{Tri}
+use Rattle.meshes.specs.Laws.{IsEar}
 
 module _ (corners : List Point) (u v w : ℕ) (ms : List ℕ) (tris : List Tri) (fits : FitsPiece corners (u ∷ v ∷ w ∷ ms) tris)
     (k l : ℕ) (ear : IsEar (u ∷ v ∷ w ∷ ms) tris k l u v w) where

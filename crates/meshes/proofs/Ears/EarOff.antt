@@ -4,8 +4,7 @@ use Rattle.std.specs.List.{Contains}
 use Rattle.std.specs.Prelude.{◌↔◌}
 use Rattle.std.proofs.lemmas.Bool.{cases_eq}
 use Rattle.plane.specs.Point.{IsPoint, Point, Triple, whole}
-use Rattle.rings.specs.Inside.{IsIn}
-use Rattle.rings.specs.Ring.{vertex}
+use Rattle.rings.specs.Prelude.{IsIn, vertex}
 use Rattle.ring_laws.proofs.Triangles.{in_of_in_triangle, first_in_triangle, last_in_triangle, middle_in_triangle}
 use Rattle.meshes.proofs.Ears.EarCut.{ear_cut, ear_left, others_lie, rest_ring, tip_off}
 use Rattle.meshes.proofs.Ears.LeafTaken.{IsRest, rest_of_one, rest_of_shared, rest_of_two, rest_tree, same_new}
@@ -13,10 +12,10 @@ use Rattle.meshes.proofs.Joins.{contains_cases, contains_first, contains_rest, p
 use Rattle.meshes.proofs.Parts.{side_in, inside_one, paved}
 use Rattle.meshes.proofs.Sides.{step_of_edge}
 use Rattle.meshes.proofs.TreeLeaves.{closed_of_sides, side_is_one}
-use Rattle.meshes.specs.Fits.{FitsPiece, IsInTri, IsPieceEdge, IsSideOfOne, IsSideOfTwo, IsStrictlyInTri, IsTriOf, piece_points}
-use Rattle.meshes.specs.Laws.{IsEar, IsLeaf}
-use Rattle.meshes.specs.Side.{HasSide, tri_at}
+use Rattle.meshes.specs.Prelude.{FitsPiece, HasSide, IsInTri, IsPieceEdge, IsSideOfOne, IsSideOfTwo, IsStrictlyInTri, IsTriOf}
+use Rattle.meshes.specs.Prelude.{piece_points, tri_at}
 use Rattle.meshes.specs.declared.tri.Tri.{Tri}
+use Rattle.meshes.specs.Laws.{IsEar, IsLeaf}
 
 module _ (corners : List Point) (u v w : ℕ) (ms : List ℕ) (tris : List Tri) (fits : FitsPiece corners (u ∷ v ∷ w ∷ ms) tris)
     (k l : ℕ) (ear : IsEar (u ∷ v ∷ w ∷ ms) tris k l u v w) (rest : List Tri) (f g : ℕ → ℕ) (r : IsRest tris rest k f g) where

@@ -11,9 +11,9 @@ use Rattle.meshes.proofs.Ears.Without.{is_rest, new_number, old_number}
 use Rattle.meshes.proofs.Joins.{contains_cases, edge_rotated, fits_rotated}
 use Rattle.meshes.proofs.Sides.{one_number}
 use Rattle.meshes.proofs.TreeLeaves.{leaf_is_ear}
-use Rattle.meshes.specs.Fits.{FitsPiece, IsPieceEdge, piece_points}
-use Rattle.meshes.specs.Laws.{EarLaw, IsEar, IsEarOff, IsLeaf, without}
+use Rattle.meshes.specs.Prelude.{FitsPiece, IsPieceEdge, piece_points}
 use Rattle.meshes.specs.declared.tri.Tri.{Tri}
+use Rattle.meshes.specs.Laws.{EarLaw, IsEar, IsEarOff, IsLeaf, without}
 
 -- the ends of an edge are numbers of the piece
 pub edge_ends : (piece : List ℕ) (i j : ℕ) → IsPieceEdge piece i j → Contains piece i × Contains piece j

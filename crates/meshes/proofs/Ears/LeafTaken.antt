@@ -2,10 +2,9 @@
 use Rattle.std.proofs.Common.{◌≡◌, inl, inr, sym, ap, subst, ◌∙◌, ℕ, ◌+◌, ◌<◌, List, [], ◌∷◌, length}
 use Rattle.std.proofs.lemmas.Bool.{cases_eq}
 use Rattle.meshes.proofs.Walks.{IsPath, IsTreeOn, Renames, tree_renamed, IsPlace, Touch, share_back, tree_of_paths, tree_of_walks}
-use Rattle.meshes.specs.Fits.{IsSideOfOne, IsSideOfTwo}
-use Rattle.meshes.specs.Laws.{IsLeaf}
-use Rattle.meshes.specs.Side.{HasSide, HasSideBetween, IsTree, ShareSide, tri_at}
+use Rattle.meshes.specs.Prelude.{HasSide, HasSideBetween, IsSideOfOne, IsSideOfTwo, IsTree, ShareSide, tri_at}
 use Rattle.meshes.specs.declared.tri.Tri.{Tri}
+use Rattle.meshes.specs.Laws.{IsLeaf}
 
 -- the rest is the list without triangle k: its triangle m is triangle f m of the list, and triangle n of the list is its triangle g n
 pub record IsRest (tris rest : List Tri) (k : ℕ) (f g : ℕ → ℕ) : Type 0 where

@@ -2,7 +2,7 @@
 use Rattle.std.proofs.Common.{◌≡◌, refl, ap, ℕ, zero, suc, ◌+◌, ◌<◌, List, [], ◌∷◌, length, arith}
 use Rattle.meshes.proofs.Ears.LeafTaken.{IsRest}
 use Rattle.meshes.specs.Laws.{without}
-use Rattle.meshes.specs.Side.{tri_at}
+use Rattle.meshes.specs.Prelude.{tri_at}
 use Rattle.meshes.specs.declared.tri.Tri.{Tri}
 
 -- the number in the list of triangle m of the rest

@@ -7,11 +7,8 @@ use Rattle.std.proofs.lemmas.List.{get_or-append-add, get_or_append_left, get_or
 use Rattle.std.proofs.lemmas.List.Elements.{Contains-append_cases, Contains-append_left, Contains-append_right}
 use Rattle.std.specs.List.{Contains}
 use Rattle.std.specs.Prelude.{◌↔◌}
-use Rattle.plane.specs.Point.{IsPoint, Point, Triple, whole}
-use Rattle.plane.specs.Segment.{On}
-use Rattle.rings.specs.Inside.{IsIn}
-use Rattle.rings.specs.Ring.{vertex}
-use Rattle.rings.specs.Simple.{IsSimple}
+use Rattle.plane.specs.Prelude.{IsPoint, On, Point, Triple, whole}
+use Rattle.rings.specs.Prelude.{IsIn, IsSimple, vertex}
 use Rattle.ring_laws.proofs.Diagonals.{AreBoth}
 use Rattle.meshes.proofs.Sides.{edge_of_step, step_after, step_before, step_cases, step_of_edge, one_number, one_place}
 use Rattle.meshes.specs.Fits.{IsPieceEdge, piece_points}

@@ -5,8 +5,7 @@ use Rattle.plane.specs.Point.{Point}
 use Rattle.ring_laws.proofs.Diagonals.{AreBoth}
 use Rattle.meshes.proofs.Joins.TwoLists.{AreParts, IsPlaceOf}
 use Rattle.meshes.proofs.Sides.{edge_or_not, corners_differ}
-use Rattle.meshes.specs.Fits.{FitsPiece, IsPieceEdge, IsSideOfOne, IsSideOfTwo, IsTriOf}
-use Rattle.meshes.specs.Side.{HasSide, HasSideBetween, tri_at}
+use Rattle.meshes.specs.Prelude.{FitsPiece, HasSide, HasSideBetween, IsPieceEdge, IsSideOfOne, IsSideOfTwo, IsTriOf, tri_at}
 use Rattle.meshes.specs.declared.tri.Tri.{Tri}
 
 -- ---- sides of one triangle

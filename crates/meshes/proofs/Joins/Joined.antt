@@ -5,16 +5,15 @@ use Rattle.std.proofs.lemmas.List.{length-append}
 use Rattle.std.specs.Prelude.{◌↔◌}
 use Rattle.plane.proofs.Points.{whole_is_point}
 use Rattle.plane.proofs.Segments.{on_is_straight}
-use Rattle.plane.specs.Point.{Point, IsPoint, Triple, whole}
-use Rattle.rings.specs.Inside.{IsIn}
-use Rattle.rings.specs.Ring.{vertex}
+use Rattle.plane.specs.Point.{IsPoint, Point, Triple, whole}
+use Rattle.rings.specs.Prelude.{IsIn, vertex}
 use Rattle.meshes.proofs.Joins.Cuts.{IsCut, both_parts, common_ends, contains_first_part, contains_second_part, first_diagonal, first_part}
 use Rattle.meshes.proofs.Joins.Cuts.{first_part_cases, part_of_edge, second_diagonal, second_part, second_part_cases, ends_differ, not_edge}
 use Rattle.meshes.proofs.Joins.Halves.{IsHalf, half_edges, half_inner_sides, between_back, common_side, between_at}
 use Rattle.meshes.proofs.Joins.OffDiagonal.{not_in_both}
 use Rattle.meshes.proofs.Joins.TwoLists.{are_parts, as_first, as_second, at_first, at_second, parts_back, IsPlaceOf, tree_joined}
-use Rattle.meshes.specs.Fits.{FitsPiece, IsPieceEdge, IsSideOfOne, IsSideOfTwo, IsTriOf, IsInTri, IsStrictlyInTri, piece_points}
-use Rattle.meshes.specs.Side.{HasSide, tri_at, IsTree}
+use Rattle.meshes.specs.Prelude.{FitsPiece, HasSide, IsInTri, IsPieceEdge, IsSideOfOne, IsSideOfTwo, IsStrictlyInTri, IsTree, IsTriOf}
+use Rattle.meshes.specs.Prelude.{piece_points, tri_at}
 use Rattle.meshes.specs.declared.tri.Tri.{Tri}
 
 -- two cases the other way round

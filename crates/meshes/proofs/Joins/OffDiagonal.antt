@@ -5,10 +5,9 @@ use Rattle.integer_algebra.proofs.SignSteps.{positive_not_negative}
 use Rattle.plane.proofs.Nearness.{Eventually, combination_toward, left_eventually, toward, toward_is_point}
 use Rattle.plane.proofs.Points.{whole_is_point}
 use Rattle.plane.proofs.Turns.{determinant_along, determinant_is_linear}
-use Rattle.plane.specs.Point.{IsPoint, Point, Triple, whole}
-use Rattle.plane.specs.Turn.{IsStraight}
+use Rattle.plane.specs.Prelude.{IsPoint, IsStraight, Point, Triple, whole}
 use Rattle.rings.specs.Ring.{vertex}
-use Rattle.meshes.specs.Fits.{IsInTri, IsStrictlyInTri}
+use Rattle.meshes.specs.Prelude.{IsInTri, IsStrictlyInTri}
 use Rattle.meshes.specs.declared.tri.Tri.{Tri}
 
 -- a point strictly inside a triangle is in it

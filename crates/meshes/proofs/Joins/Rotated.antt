@@ -4,18 +4,14 @@ use Rattle.std.proofs.lemmas.List.{append-nil, length-append, map-append}
 use Rattle.std.proofs.lemmas.List.Elements.{Contains-append_cases, Contains-append_left, Contains-append_right}
 use Rattle.std.specs.List.{Contains}
 use Rattle.std.specs.Prelude.{◌↔◌}
-use Rattle.plane.specs.Point.{IsPoint, Point, Triple, whole}
-use Rattle.plane.specs.Turn.{IsLeft}
+use Rattle.plane.specs.Prelude.{IsLeft, IsPoint, Point, Triple, whole}
 use Rattle.rings.proofs.Inside.{apart_rotated, in_rotated}
 use Rattle.rings.proofs.Simple.{apart_of_simple, simple_of_apart}
-use Rattle.rings.specs.Inside.{IsIn}
-use Rattle.rings.specs.Ring.{vertex}
-use Rattle.rings.specs.Simple.{IsSimple}
+use Rattle.rings.specs.Prelude.{IsIn, IsSimple, vertex}
 use Rattle.meshes.proofs.Joins.Cuts.{IsCut}
 use Rattle.meshes.proofs.Joins.Joined.{fits_joined}
 use Rattle.meshes.proofs.Sides.{edge_of_step, step_after, step_before, step_cases, step_of_edge, fits_triangle}
-use Rattle.meshes.specs.Fits.{FitsPiece, IsPieceEdge, IsTriOf, piece_points}
-use Rattle.meshes.specs.Side.{tri_at}
+use Rattle.meshes.specs.Prelude.{FitsPiece, IsPieceEdge, IsTriOf, piece_points, tri_at}
 use Rattle.meshes.specs.declared.tri.Tri.{Tri}
 
 -- another piece with the same edges, vertices and points

@@ -4,7 +4,7 @@ use Rattle.std.proofs.lemmas.Bool.{cases_lt}
 use Rattle.std.proofs.lemmas.List.{get_or-append-add, get_or_append_left, length-append}
 use Rattle.meshes.proofs.Joins.JoinedTrees.{Both, IsBridge, joined_tree}
 use Rattle.meshes.proofs.Walks.{Renames, tree_of_same, tree_renamed, IsPlace, Touch, share_back, tree_of_paths, tree_of_walks}
-use Rattle.meshes.specs.Side.{IsTree, ShareSide, tri_at}
+use Rattle.meshes.specs.Prelude.{IsTree, ShareSide, tri_at}
 use Rattle.meshes.specs.declared.tri.Tri.{Tri}
 
 -- number n is that of triangle k of a part

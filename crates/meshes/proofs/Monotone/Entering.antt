@@ -10,10 +10,7 @@ use Rattle.plane.proofs.Meetings.{crossing_or_line}
 use Rattle.plane.proofs.Order.{before_differs, before_trans, not_after_of_precedes, precedes_differs, rise, run, written_rise, written_run}
 use Rattle.plane.proofs.Points.{whole_is_point}
 use Rattle.plane.proofs.Turns.{parts, determinant as det, determinant_shift}
-use Rattle.plane.specs.Order.{IsBefore}
-use Rattle.plane.specs.Point.{Point, Triple, whole}
-use Rattle.plane.specs.Segment.{Meet}
-use Rattle.plane.specs.Turn.{determinant, IsLeft, IsRight}
+use Rattle.plane.specs.Prelude.{determinant, IsBefore, IsLeft, IsRight, Meet, Point, Triple, whole}
 use Rattle.rings.proofs.Sweeps.{Part, none_gains, precedes_whole, same_of, way}
 use Rattle.rings.specs.Apart.{MeetAtEnds}
 use Rattle.rings.specs.Below.{IsBelow}

@@ -8,15 +8,11 @@ use Rattle.integer_algebra.proofs.SignSteps.{not_both, positive_not_negative}
 use Rattle.integer_algebra.proofs.Signs.{lt_or_le}
 use Rattle.plane.proofs.Segments.{on_first_end, on_reversed, on_same_point}
 use Rattle.plane.proofs.Turns.{determinant_swap_first}
-use Rattle.plane.specs.Point.{Point, whole, IsPoint, IsSame, Triple}
-use Rattle.plane.specs.Segment.{On}
-use Rattle.plane.specs.Turn.{IsRight, determinant}
+use Rattle.plane.specs.Prelude.{determinant, IsPoint, IsRight, IsSame, On, Point, Triple, whole}
 use Rattle.rings.proofs.Simple.{apart_of_simple, same_or_not}
 use Rattle.rings.proofs.Vertices.{edge_at, has_edge_at, on_some_of}
 use Rattle.rings.specs.Apart.{IsApartRing}
-use Rattle.rings.specs.Edge.{Edge, HasEdge, IsOn, IsOnSome, edges_of, HasEnd, edge}
-use Rattle.rings.specs.Inside.{IsIn}
-use Rattle.rings.specs.Ring.{vertex}
+use Rattle.rings.specs.Prelude.{Edge, edge, edges_of, HasEdge, HasEnd, IsIn, IsOn, IsOnSome, vertex}
 use Rattle.ring_laws.proofs.Triangles.{end_of_other}
 use Rattle.ring_laws.specs.Diagonal.{IsDiagonal}
 use Rattle.meshes.proofs.Joins.{between_ends}
@@ -24,8 +20,7 @@ use Rattle.meshes.proofs.Parts.OpenRegions.{IsLeftOfAll, region_off_edges}
 use Rattle.meshes.proofs.Parts.Opposite.{IsOpposite, left_of_next, left_of_previous, opposite}
 use Rattle.meshes.proofs.Parts.Paved.{IsPaved}
 use Rattle.meshes.proofs.Sides.{length_points, vertex_of_piece, one_place}
-use Rattle.meshes.specs.Fits.{piece_points, IsInTri, IsSideOfTwo}
-use Rattle.meshes.specs.Side.{tri_at}
+use Rattle.meshes.specs.Prelude.{IsInTri, IsSideOfTwo, piece_points, tri_at}
 use Rattle.meshes.specs.declared.tri.Tri.{Tri}
 
 -- an edge that begins at a vertex has it on it

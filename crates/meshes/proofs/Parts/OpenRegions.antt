@@ -4,17 +4,14 @@ use Rattle.plane.proofs.Nearness.{Eventually, left_eventually, toward, toward_di
 use Rattle.plane.proofs.Points.{same_sym, same_trans, whole_is_point}
 use Rattle.plane.proofs.Segments.{on_first_end, on_last_end, on_reversed, on_same_point, on_antisym, on_total, on_nested, middle, middle_first}
 use Rattle.plane.proofs.Segments.{middle_is_point, middle_last, middle_on, left_not_on, right_not_on, within_from}
-use Rattle.plane.specs.Point.{IsPoint, IsSame, Point, Triple, whole}
-use Rattle.plane.specs.Segment.{On}
-use Rattle.plane.specs.Turn.{IsLeft}
+use Rattle.plane.specs.Prelude.{IsLeft, IsPoint, IsSame, On, Point, Triple, whole}
 use Rattle.rings.proofs.Crossings.{winding_law_crossed, right_swapped, other_parity}
 use Rattle.rings.proofs.Inside.{both_odd}
 use Rattle.rings.proofs.Simple.{proper_edges, same_or_not}
 use Rattle.rings.proofs.Vertices.{closed_edges_of, on_some_cases, on_some_left, on_some_right, edge_with, misses_between}
 use Rattle.rings.specs.Across.{CrossesRight, Misses}
 use Rattle.rings.specs.Apart.{IsApartRing}
-use Rattle.rings.specs.Edge.{Edge, HasEdge, IsClosed, IsOn, IsOnSome, edges_of}
-use Rattle.rings.specs.Inside.{IsIn, winding}
+use Rattle.rings.specs.Prelude.{Edge, edges_of, HasEdge, IsClosed, IsIn, IsOn, IsOnSome, winding}
 use Rattle.ring_laws.proofs.Triangles.{crosses_near, left_of, left_of_is_left, off_others, other_edges}
 
 -- left of the lines of all these edges

@@ -7,15 +7,10 @@ use Rattle.plane.proofs.Nearness.{left_toward, side_toward, Eventually, left_eve
 use Rattle.plane.proofs.Points.{whole_is_point}
 use Rattle.plane.proofs.Segments.{on_is_straight, on_reversed, first_end_on_line}
 use Rattle.plane.proofs.Turns.{determinant_same_ends, determinant_same_last}
-use Rattle.plane.specs.Point.{IsPoint, IsSame, Point, Triple, whole}
-use Rattle.plane.specs.Segment.{On}
-use Rattle.plane.specs.Turn.{IsLeft, IsStraight, determinant}
-use Rattle.plane.specs.Triangle.{IsInTriangle}
-use Rattle.rings.specs.Edge.{Edge, edge}
-use Rattle.rings.specs.Ring.{vertex}
+use Rattle.plane.specs.Prelude.{determinant, IsInTriangle, IsLeft, IsPoint, IsSame, IsStraight, On, Point, Triple, whole}
+use Rattle.rings.specs.Prelude.{Edge, edge, vertex}
 use Rattle.ring_laws.proofs.Triangles.{between_in_triangle, first_in_triangle, left_at_first, left_at_last, middle_in_triangle}
-use Rattle.meshes.specs.Fits.{IsInTri, IsStrictlyInTri}
-use Rattle.meshes.specs.Side.{HasSide}
+use Rattle.meshes.specs.Prelude.{HasSide, IsInTri, IsStrictlyInTri}
 use Rattle.meshes.specs.declared.tri.Tri.{Tri}
 
 -- ---- the corner opposite to a side

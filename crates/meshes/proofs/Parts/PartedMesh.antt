@@ -3,13 +3,10 @@ use Rattle.std.proofs.Common.{◌≡◌, ◌⊎◌, inl, inr, sym, ap, subst, �
 use Rattle.std.specs.List.{Contains}
 use Rattle.plane.proofs.Points.{same_whole, whole_is_point}
 use Rattle.plane.proofs.Segments.{on_first_end, on_last_end, on_reversed, middle, middle_first, middle_is_point, middle_last, middle_on}
-use Rattle.plane.specs.Point.{IsPoint, Point, Triple, whole}
-use Rattle.plane.specs.Segment.{On}
+use Rattle.plane.specs.Prelude.{IsPoint, On, Point, Triple, whole}
 use Rattle.rings.proofs.Vertices.{on_some_of}
 use Rattle.rings.specs.Apart.{IsApartRing}
-use Rattle.rings.specs.Edge.{Edge, HasEdge, IsOn, edge, edges_of}
-use Rattle.rings.specs.Inside.{IsIn}
-use Rattle.rings.specs.Ring.{vertex}
+use Rattle.rings.specs.Prelude.{Edge, edge, edges_of, HasEdge, IsIn, IsOn, vertex}
 use Rattle.ring_laws.proofs.Diagonals.{AreBoth}
 use Rattle.ring_laws.specs.Diagonal.{IsDiagonal}
 use Rattle.meshes.proofs.Joins.{between_ends}
@@ -20,8 +17,7 @@ use Rattle.meshes.proofs.Parts.OpenRegions.{region_off_edges}
 use Rattle.meshes.proofs.Parts.Opposite.{opposite}
 use Rattle.meshes.proofs.Parts.Paved.{IsPaved}
 use Rattle.meshes.proofs.Parts.Splits.{IsSplit, split_by}
-use Rattle.meshes.specs.Fits.{IsInTri, piece_points}
-use Rattle.meshes.specs.Side.{HasSideBetween, tri_at}
+use Rattle.meshes.specs.Prelude.{HasSideBetween, IsInTri, piece_points, tri_at}
 use Rattle.meshes.specs.declared.tri.Tri.{Tri}
 
 -- two pieces cover the ring and share only points of the side; triangle k lies in the first, and triangle l in the second

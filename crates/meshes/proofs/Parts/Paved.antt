@@ -2,13 +2,11 @@
 use Rattle.std.proofs.Common.{ℕ, ◌<◌, List, length, arith}
 use Rattle.std.specs.Prelude.{◌↔◌}
 use Rattle.plane.specs.Point.{IsPoint, Point, Triple}
-use Rattle.rings.specs.Inside.{IsIn}
-use Rattle.rings.specs.Simple.{IsSimple}
+use Rattle.rings.specs.Prelude.{IsIn, IsSimple}
 use Rattle.meshes.proofs.Walks.{IsPlace}
-use Rattle.meshes.specs.Fits.{FitsPiece, IsInTri, IsStrictlyInTri, IsTriOf, piece_points}
-use Rattle.meshes.specs.Side.{tri_at}
-use Rattle.meshes.specs.Tiling.{IsTiling}
+use Rattle.meshes.specs.Prelude.{FitsPiece, IsInTri, IsStrictlyInTri, IsTriOf, piece_points, tri_at}
 use Rattle.meshes.specs.declared.tri.Tri.{Tri}
+use Rattle.meshes.specs.Tiling.{IsTiling}
 
 -- the triangles with numbers in P cover the piece without overlap
 pub record IsPaved (corners : List Point) (piece : List ℕ) (tris : List Tri) (P : ℕ → Type 0) : Type 0 where

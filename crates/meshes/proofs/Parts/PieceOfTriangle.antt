@@ -6,21 +6,17 @@ use Rattle.std.specs.List.{Contains}
 use Rattle.plane.proofs.Nearness.{Eventually, toward, toward_differs, toward_is_point, toward_on}
 use Rattle.plane.proofs.Points.{same_sym, whole_is_point}
 use Rattle.plane.proofs.Segments.{on_first_end, on_reversed, on_nested, stays_left}
-use Rattle.plane.specs.Point.{IsPoint, IsSame, Point, Triple, whole}
-use Rattle.plane.specs.Segment.{Meet, On}
+use Rattle.plane.specs.Prelude.{IsPoint, IsSame, Meet, On, Point, Triple, whole}
 use Rattle.rings.proofs.Crossings.{in_law, misses_swapped}
 use Rattle.rings.proofs.Inside.{in_or_not}
 use Rattle.rings.proofs.Vertices.{on_some_same, FirstHit, first_hit_or_misses, misses_before, misses_eventually}
-use Rattle.rings.specs.Edge.{edges_of, IsOnSome}
-use Rattle.rings.specs.Inside.{IsIn}
-use Rattle.rings.specs.Ring.{vertex}
+use Rattle.rings.specs.Prelude.{edges_of, IsIn, IsOnSome, vertex}
 use Rattle.meshes.proofs.Joins.{in_tri}
 use Rattle.meshes.proofs.Parts.MeshDiagonals.{IsShared, ring_apart, ring_long, vertex_on_ring}
 use Rattle.meshes.proofs.Parts.OpenRegions.{IsLeftOfAll, left_of_all_eventually, region_off_edges}
 use Rattle.meshes.proofs.Parts.Opposite.{IsOpposite, mean, mean_inside, mean_is_point, near_side, sides, toward_inside}
 use Rattle.meshes.proofs.Parts.Paved.{IsPaved}
-use Rattle.meshes.specs.Fits.{IsInTri, IsStrictlyInTri, piece_points}
-use Rattle.meshes.specs.Side.{tri_at}
+use Rattle.meshes.specs.Prelude.{IsInTri, IsStrictlyInTri, piece_points, tri_at}
 use Rattle.meshes.specs.declared.tri.Tri.{Tri}
 
 -- a rational point is in a ring where the near points toward another are

@@ -7,8 +7,7 @@ use Rattle.plane.specs.Point.{Point, whole}
 use Rattle.rings.proofs.Simple.{apart_of_simple}
 use Rattle.rings.proofs.Vertices.{has_right, vertex_in_range, parts_at}
 use Rattle.rings.specs.Apart.{IsApartRing}
-use Rattle.rings.specs.Edge.{HasEdge, edge, edges_along, edges_of}
-use Rattle.rings.specs.Ring.{origin, vertex}
+use Rattle.rings.specs.Prelude.{edge, edges_along, edges_of, HasEdge, origin, vertex}
 use Rattle.ring_laws.proofs.Cuts.{cut_between}
 use Rattle.ring_laws.proofs.Diagonals.{diagonal_backward}
 use Rattle.ring_laws.proofs.Pieces.{edges_of_first}

@@ -4,16 +4,12 @@ use Rattle.std.specs.Prelude.{◌↔◌}
 use Rattle.integer_algebra.proofs.SignSteps.{positive_not_zero}
 use Rattle.plane.proofs.Meetings.{meet_only_at_from}
 use Rattle.plane.proofs.Turns.{determinant_same_ends, determinant_same_first, determinant_same_last, determinant_shift, determinant_shift_back}
-use Rattle.plane.specs.Point.{IsPoint, Point, Triple, whole}
-use Rattle.plane.specs.Turn.{IsLeft, IsStraight}
-use Rattle.rings.specs.Inside.{IsIn}
-use Rattle.rings.specs.Ring.{vertex}
-use Rattle.rings.specs.Simple.{IsSimple}
+use Rattle.plane.specs.Prelude.{IsLeft, IsPoint, IsStraight, Point, Triple, whole}
+use Rattle.rings.specs.Prelude.{IsIn, IsSimple, vertex}
 use Rattle.ring_laws.proofs.Triangles.{in_of_in_triangle, in_triangle_of_in}
 use Rattle.meshes.proofs.Sides.PieceSteps.{edge_of_step, step_of_edge}
 use Rattle.meshes.proofs.Walks.{IsPath, IsPlace, Touch, tree_of_paths}
-use Rattle.meshes.specs.Fits.{FitsPiece, IsInTri, IsPieceEdge, IsSideOfOne, IsTriOf, piece_points}
-use Rattle.meshes.specs.Side.{HasSide, IsTree, tri_at}
+use Rattle.meshes.specs.Prelude.{FitsPiece, HasSide, IsInTri, IsPieceEdge, IsSideOfOne, IsTree, IsTriOf, piece_points, tri_at}
 use Rattle.meshes.specs.declared.tri.Tri.{Tri}
 
 -- ---- three points that turn

@@ -7,12 +7,10 @@ use Rattle.std.proofs.lemmas.List.FromFn.{get_or-range_with_len, length-range_wi
 use Rattle.std.specs.List.{range_with_len}
 use Rattle.integer_algebra.proofs.Decisions.{both_or_not, either_or_not}
 use Rattle.plane.proofs.Turns.{determinant_same_ends, determinant_same_first, determinant_same_last}
-use Rattle.plane.specs.Point.{Point, Triple, whole}
-use Rattle.plane.specs.Turn.{IsLeft}
+use Rattle.plane.specs.Prelude.{IsLeft, Point, Triple, whole}
 use Rattle.rings.proofs.Vertices.{next_round}
 use Rattle.rings.specs.Ring.{vertex}
-use Rattle.meshes.specs.Fits.{IsPieceEdge, Fits, IsSideOfOne}
-use Rattle.meshes.specs.Side.{HasSide, HasSidesOnce, tri_at}
+use Rattle.meshes.specs.Prelude.{Fits, HasSide, HasSidesOnce, IsPieceEdge, IsSideOfOne, tri_at}
 use Rattle.meshes.specs.declared.tri.Tri.{Tri}
 
 -- a step from i to j along some numbers and on to the last one

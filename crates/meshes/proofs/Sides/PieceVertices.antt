@@ -5,9 +5,7 @@ use Rattle.std.proofs.lemmas.List.FromFn.{fill_by_all}
 use Rattle.std.specs.List.{range_with_len}
 use Rattle.plane.specs.Point.{Point}
 use Rattle.rings.proofs.Vertices.{has_edge_at, one_to_one, vertex_in_range}
-use Rattle.rings.specs.Edge.{HasEdge, edge, edges_of}
-use Rattle.rings.specs.Ring.{origin, vertex}
-use Rattle.rings.specs.Simple.{IsSimple}
+use Rattle.rings.specs.Prelude.{edge, edges_of, HasEdge, IsSimple, origin, vertex}
 use Rattle.rings.proofs.Simple.{apart_of_simple}
 use Rattle.meshes.specs.Fits.{IsPieceEdge, piece_points}
 

@@ -3,8 +3,7 @@ use Rattle.std.proofs.Common.{◌≡◌, inl, inr, subst, ℕ, ◌+◌, ◌<◌,
 use Rattle.std.proofs.lemmas.List.FromFn.{get_or-range_with_len, length-range_with_len}
 use Rattle.std.specs.List.{Contains, range_with_len}
 use Rattle.plane.specs.Point.{Point}
-use Rattle.meshes.specs.Fits.{Fits}
-use Rattle.meshes.specs.Side.{HasSide, tri_at}
+use Rattle.meshes.specs.Prelude.{Fits, HasSide, tri_at}
 use Rattle.meshes.specs.declared.tri.Tri.{Tri}
 
 -- a member of the numbers below n is below n

@@ -4,12 +4,11 @@ use Rattle.std.proofs.Common.{IfSome, length-append}
 use Rattle.std.proofs.lemmas.Bool.{cases_eq}
 use Rattle.std.proofs.lemmas.List.{get_or_append_left, get_or_push}
 use Rattle.std.specs.Prelude.{IsNone, Option}
-use Rattle.meshes.specs.Fits.{IsSideOfOne, IsSideOfTwo}
-use Rattle.meshes.specs.Mesh.{side_begin, side_end}
-use Rattle.meshes.specs.Side.{HasSidesOnce, HasSide, HasSideBetween, ShareSide, tri_at}
+use Rattle.meshes.specs.Prelude.{HasSide, HasSideBetween, HasSidesOnce, IsSideOfOne, IsSideOfTwo, ShareSide, side_begin, side_end}
+use Rattle.meshes.specs.declared.tri.Tri.{Tri}
+use Rattle.meshes.specs.Prelude.{tri_at}
 use Rattle.meshes.specs.Sleeve.{IsDiagonalBetween}
 use Rattle.meshes.specs.declared.diagonal.Diagonal.{Diagonal}
-use Rattle.meshes.specs.declared.tri.Tri.{Tri}
 
 -- the triangle across a side of triangle k, by its number
 pub record IsAcross (tris : List Tri) (k side : ℕ) (answer : Option ℕ) : Type 0 where

@@ -3,21 +3,17 @@
 use Rattle.std.proofs.Common.{◌≡◌, ◌⊎◌, inl, inr, sym, subst, ◌∙◌, List, length, get_or, ℕ, zero, suc, ◌+◌, ◌-◌, ◌<◌, ◌≤◌, arith}
 use Rattle.std.specs.List.{range_with_len}
 use Rattle.plane.proofs.Segments.{meet_reversed_second, on_reversed, on_first_end, on_last_end, later_between, on_one_side, on_nested}
-use Rattle.plane.specs.Point.{IsPoint, Point, Triple, whole}
-use Rattle.plane.specs.Segment.{Meet, On}
+use Rattle.plane.specs.Prelude.{IsPoint, Meet, On, Point, Triple, whole}
 use Rattle.rings.proofs.Vertices.{one_to_one}
-use Rattle.rings.specs.Inside.{IsIn}
-use Rattle.rings.specs.Ring.{vertex}
-use Rattle.rings.specs.Sees.{Sees}
+use Rattle.rings.specs.Prelude.{IsIn, Sees, vertex}
 use Rattle.ring_laws.proofs.Triangles.{between_in_triangle}
 use Rattle.meshes.proofs.Joins.{between_back, between_at}
 use Rattle.meshes.proofs.Parts.{meets_between, IsShared, shared_of, IsParted, parted, shared_is_this, LiesIn, lies_in_one, paved, side_in}
 use Rattle.meshes.proofs.Sides.{edge_or_not, piece_points_all}
 use Rattle.meshes.proofs.Walks.{IsPlace}
-use Rattle.meshes.specs.Fits.{FitsPiece, IsInTri, IsSideOfTwo, piece_points}
-use Rattle.meshes.specs.Laws.{CrossesSide, walk_tri, PieceSleeveLaw, SeparationLaw, SleeveLaw}
-use Rattle.meshes.specs.Side.{HasSide, HasSideBetween, IsWalk, tri_at}
+use Rattle.meshes.specs.Prelude.{FitsPiece, HasSide, HasSideBetween, IsInTri, IsSideOfTwo, IsWalk, piece_points, tri_at}
 use Rattle.meshes.specs.declared.tri.Tri.{Tri}
+use Rattle.meshes.specs.Laws.{CrossesSide, walk_tri, PieceSleeveLaw, SeparationLaw, SleeveLaw}
 
 module _ (corners : List Point) (piece : List ℕ) (tris : List Tri) (fits : FitsPiece corners piece tris) where
   -- a side of one triangle that is a side of another one in some direction

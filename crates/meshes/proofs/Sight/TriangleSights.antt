@@ -1,16 +1,11 @@
 -- A triangle of a mesh: its points are in the ring and see each other, so a sight of one of them goes on to the others.
 use Rattle.std.proofs.Common.{inl, inr, subst, ℕ, ◌<◌, List, length}
 use Rattle.plane.proofs.Segments.{on_first_end, on_nested, on_one_side}
-use Rattle.plane.specs.Point.{IsPoint, Point, Triple, whole}
-use Rattle.plane.specs.Segment.{On}
-use Rattle.plane.specs.Turn.{IsRight}
-use Rattle.rings.specs.Inside.{IsIn}
-use Rattle.rings.specs.Ring.{vertex}
-use Rattle.rings.specs.Sees.{Sees}
+use Rattle.plane.specs.Prelude.{IsPoint, IsRight, On, Point, Triple, whole}
+use Rattle.rings.specs.Prelude.{IsIn, Sees, vertex}
 use Rattle.ring_laws.proofs.Triangles.{between_in_triangle}
 use Rattle.meshes.proofs.Sides.{piece_points_all}
-use Rattle.meshes.specs.Fits.{Fits, IsInTri}
-use Rattle.meshes.specs.Side.{HasSide, tri_at}
+use Rattle.meshes.specs.Prelude.{Fits, HasSide, IsInTri, tri_at}
 use Rattle.meshes.specs.declared.tri.Tri.{Tri}
 
 -- ---- sights

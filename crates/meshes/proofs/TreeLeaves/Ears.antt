@@ -6,10 +6,9 @@ use Rattle.meshes.proofs.TreeLeaves.LeavesOffPaths.{leaf_off}
 use Rattle.meshes.proofs.TreeLeaves.TreeLeaves.{IsJoinedToOne, leaf_other}
 use Rattle.meshes.proofs.TreeLeaves.TwoSides.{next_corner, not_two_shared}
 use Rattle.meshes.proofs.Walks.{Touch, new_at_place, new_from_places, path_of_walk, share_back, tree_of_walks}
-use Rattle.meshes.specs.Fits.{FitsPiece, IsPieceEdge, IsSideOfTwo}
-use Rattle.meshes.specs.Laws.{IsEar, IsLeaf, LeafOffWalkLaw, LeavesLaw}
-use Rattle.meshes.specs.Side.{HasSide, tri_at}
+use Rattle.meshes.specs.Prelude.{FitsPiece, HasSide, IsPieceEdge, IsSideOfTwo, tri_at}
 use Rattle.meshes.specs.declared.tri.Tri.{Tri}
+use Rattle.meshes.specs.Laws.{IsEar, IsLeaf, LeafOffWalkLaw, LeavesLaw}
 
 -- a number joined to one other is a leaf
 leaf_of : (tris : List Tri) (k : ℕ) → k < length tris → IsJoinedToOne (length tris) (Touch tris) k → IsLeaf tris k

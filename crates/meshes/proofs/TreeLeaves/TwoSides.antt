@@ -2,13 +2,10 @@
 use Rattle.std.proofs.Common.{◌≡◌, ◌⊎◌, inl, inr, refl, sym, subst, ℕ, List, arith}
 use Rattle.std.proofs.lemmas.Int.{ints}
 use Rattle.plane.proofs.Turns.{determinant_swap_ends}
-use Rattle.plane.specs.Point.{Point, Triple, whole}
-use Rattle.plane.specs.Triangle.{IsInTriangle}
-use Rattle.plane.specs.Turn.{IsLeft}
+use Rattle.plane.specs.Prelude.{IsInTriangle, IsLeft, Point, Triple, whole}
 use Rattle.rings.specs.Ring.{vertex}
 use Rattle.ring_laws.proofs.Triangles.{left_at_last}
-use Rattle.meshes.specs.Fits.{IsInTri}
-use Rattle.meshes.specs.Side.{HasSide}
+use Rattle.meshes.specs.Prelude.{HasSide, IsInTri}
 use Rattle.meshes.specs.declared.tri.Tri.{Tri}
 use Rattle.meshes.proofs.Sides.{corners_differ}
 

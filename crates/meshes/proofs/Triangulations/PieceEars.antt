@@ -3,12 +3,10 @@
 use Rattle.std.proofs.Common.{◌≡◌, sym, ap, subst, ◌∙◌, ℕ, ◌<◌, List, [], ◌∷◌, ◌++◌, length, arith, inl, inr}
 use Rattle.std.proofs.lemmas.List.{length-append, map-append, length-map}
 use Rattle.plane.proofs.Segments.{on_reversed}
-use Rattle.plane.specs.Point.{Point, whole}
-use Rattle.plane.specs.Turn.{IsLeft}
+use Rattle.plane.specs.Prelude.{IsLeft, Point, whole}
 use Rattle.rings.proofs.Inside.{in_rotated}
 use Rattle.rings.proofs.Vertices.{Farthest, HasPoint}
-use Rattle.rings.specs.Ring.{vertex}
-use Rattle.rings.specs.Simple.{IsSimple}
+use Rattle.rings.specs.Prelude.{IsSimple, vertex}
 use Rattle.rings.specs.Winding.{RunsCounterclockwise}
 use Rattle.ring_laws.proofs.Cuts.{IsCounterclockwiseCut, farthest_cut_runs, least_turn, ear_cut_runs}
 use Rattle.ring_laws.proofs.Ears.{NoneBefore}
@@ -16,9 +14,9 @@ use Rattle.ring_laws.proofs.Simple.{InTriangle, height}
 use Rattle.meshes.proofs.Joins.{IsCut, both_parts, first_part, second_part, fits_joined, fits_ear, fits_rotated, same_rotated}
 use Rattle.meshes.proofs.Sides.{fits_triangle}
 use Rattle.meshes.proofs.Triangulations.Pieces.{HasTris, SplitAt}
-use Rattle.meshes.specs.Fits.{FitsPiece, piece_points}
-use Rattle.meshes.specs.Piece.{IsPolygonPiece}
+use Rattle.meshes.specs.Prelude.{FitsPiece, piece_points}
 use Rattle.meshes.specs.declared.tri.Tri.{Tri}
+use Rattle.meshes.specs.Piece.{IsPolygonPiece}
 
 -- ---- two parts
 

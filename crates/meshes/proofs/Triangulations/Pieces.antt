@@ -7,9 +7,9 @@ use Rattle.rings.specs.Ring.{vertex}
 use Rattle.rings.specs.Winding.{RunsCounterclockwise}
 use Rattle.ring_laws.proofs.Ears.{counterclockwise_rotated}
 use Rattle.meshes.proofs.Joins.{fits_rotated, same_rotated}
-use Rattle.meshes.specs.Fits.{FitsPiece, piece_points}
-use Rattle.meshes.specs.Piece.{IsPolygonPiece}
+use Rattle.meshes.specs.Prelude.{FitsPiece, piece_points}
 use Rattle.meshes.specs.declared.tri.Tri.{Tri}
+use Rattle.meshes.specs.Piece.{IsPolygonPiece}
 
 -- some triangles fit the piece
 abbrev pub HasTris : List Point → List ℕ → Type 0

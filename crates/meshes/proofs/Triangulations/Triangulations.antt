@@ -8,9 +8,7 @@ use Rattle.std.specs.List.{range_with_len}
 use Rattle.plane.specs.Point.{Point, whole}
 use Rattle.rings.proofs.Simple.{apart_of_simple}
 use Rattle.rings.proofs.Vertices.{HasPoint, Farthest, farthest_or_none, has_cases, has_left, has_number, has_right, vertex_in_range}
-use Rattle.rings.specs.Orientation.{IsCounterclockwise}
-use Rattle.rings.specs.Ring.{origin, vertex}
-use Rattle.rings.specs.Simple.{IsSimple}
+use Rattle.rings.specs.Prelude.{IsCounterclockwise, IsSimple, origin, vertex}
 use Rattle.rings.specs.Winding.{RunsCounterclockwise}
 use Rattle.ring_laws.proofs.Cuts.{IsCounterclockwiseCut}
 use Rattle.ring_laws.proofs.Ears.{NoneBefore, least_vertex, none_before_least}

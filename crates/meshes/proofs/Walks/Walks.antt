@@ -1,7 +1,7 @@
 -- Walks over the triangles of a list, and the paths in the graph of the triangles that share sides.
 use Rattle.std.proofs.Common.{◌≡◌, inl, inr, refl, sym, ap, subst, ◌∙◌, ℕ, zero, suc, ◌+◌, ◌-◌, ◌<◌, List, [], ◌∷◌, length, get_or, arith}
 use Rattle.meshes.proofs.Walks.Paths.{IsNew, IsPath, IsTreeOn}
-use Rattle.meshes.specs.Side.{IsTree, IsWalk, IsWalkBetween, ShareSide, tri_at}
+use Rattle.meshes.specs.Prelude.{IsTree, IsWalk, IsWalkBetween, ShareSide, tri_at}
 use Rattle.meshes.specs.declared.tri.Tri.{Tri}
 
 -- the number of a triangle of the list

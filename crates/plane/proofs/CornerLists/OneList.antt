@@ -8,10 +8,8 @@ use Rattle.plane.proofs.Order.{NotAfter, not_after_from, not_after_of_same, not_
 use Rattle.plane.proofs.Points.{same_refl, same_sym, same_trans}
 use Rattle.plane.proofs.Segments.{on_first_end, on_is_straight, on_last_end, on_not_before, same_straight, straight_on}
 use Rattle.plane.proofs.Turns.{determinant_same_ends, straight_shift}
-use Rattle.plane.specs.Point.{IsPoint, IsSame, Triple}
+use Rattle.plane.specs.Prelude.{IsPoint, IsSame, IsStraight, On, Triple}
 use Rattle.plane.specs.Region.{AreCorners, IsCornerList, IsInRegion, IsRightOfNone, corner_at}
-use Rattle.plane.specs.Segment.{On}
-use Rattle.plane.specs.Turn.{IsStraight}
 
 -- two lists of the same corners in the same order
 pub record AreSameCorners (c d : List Triple) : Type 0 where

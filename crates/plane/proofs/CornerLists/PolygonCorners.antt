@@ -7,9 +7,8 @@ use Rattle.integer_algebra.proofs.SignSteps.{not_both, weak, zero_not_negative}
 use Rattle.plane.proofs.CornerLists.SidesOfSets.{IsSide, least_at_corner, on_side}
 use Rattle.plane.proofs.Order.{NotAfter, not_after_from}
 use Rattle.plane.proofs.Turns.{determinant_same_ends, determinant_same_last}
-use Rattle.plane.specs.Point.{IsPoint, Triple}
+use Rattle.plane.specs.Prelude.{IsLeft, IsPoint, IsRight, Triple}
 use Rattle.plane.specs.Region.{AreCorners, IsRightOfNone, corner_at}
-use Rattle.plane.specs.Turn.{IsLeft, IsRight}
 
 -- ---- numbers
 

@@ -11,10 +11,7 @@ use Rattle.plane.proofs.Points.{same_sym}
 use Rattle.plane.proofs.Segments.{on_antisym, on_first_end, on_last_end, on_nested, on_same_point}
 use Rattle.plane.proofs.Turns.{determinant as det, determinant_same, determinant_shift, determinant_swap_last, four_triples_in_W, four_triples_in_X}
 use Rattle.plane.proofs.Turns.{four_triples_in_Y, on_of_combination, parts}
-use Rattle.plane.specs.Order.{Precedes}
-use Rattle.plane.specs.Point.{IsPoint, IsSame, Triple}
-use Rattle.plane.specs.Segment.{On}
-use Rattle.plane.specs.Turn.{IsLeft, IsRight, IsStraight, determinant}
+use Rattle.plane.specs.Prelude.{determinant, IsLeft, IsPoint, IsRight, IsSame, IsStraight, On, Precedes, Triple}
 
 -- ---- sides
 

@@ -7,8 +7,7 @@ use Rattle.integer_algebra.proofs.Signs.{lt_or_le, mul_nonpositive, mul_positive
 use Rattle.plane.proofs.Nearness.{no_meet_across}
 use Rattle.plane.proofs.Segments.{on_last_end, on_reversed, on_same_point, on_antisym, on_total, first_end_by, on_or_separated, separated_not_on}
 use Rattle.plane.proofs.Turns.{linear, IsCombination, combination_of, linear_along, on_of_combination}
-use Rattle.plane.specs.Point.{IsPoint, Triple}
-use Rattle.plane.specs.Segment.{Meet, On}
+use Rattle.plane.specs.Prelude.{IsPoint, Meet, On, Triple}
 
 -- a point of the segment from a to b on the way from y to t, and before all others of the segment
 pub record First (y t a b : Triple) : Type 0 where

@@ -16,9 +16,7 @@ use Rattle.plane.proofs.Segments.{first_end_by, along_from_square, combination_a
 use Rattle.plane.proofs.Segments.{separated_not_on}
 use Rattle.plane.proofs.Turns.{IsCombination, combination_of, linear_along, on_of_combination, weights_positive, determinant_same_ends}
 use Rattle.plane.proofs.Turns.{determinant_same_last, determinant_swap_first, straight_swap_first, determinant_is_linear}
-use Rattle.plane.specs.Point.{IsPoint, Triple}
-use Rattle.plane.specs.Segment.{Meet, On}
-use Rattle.plane.specs.Turn.{IsStraight, determinant}
+use Rattle.plane.specs.Prelude.{determinant, IsPoint, IsStraight, Meet, On, Triple}
 
 -- how far a combination of two points is along a segment
 along_at : (a b z y t : Triple) (c : IsCombination z y t) → c.k *ℤ along a b z ≡ c.l *ℤ along a b y +ℤ c.m *ℤ along a b t

@@ -10,10 +10,8 @@ use Rattle.plane.proofs.Points.{same_whole, whole_is_point}
 use Rattle.plane.proofs.Segments.{on_segment_from, combination_is_straight, on_first_end, on_last_end, on_reversed}
 use Rattle.plane.proofs.Turns.{determinant_same_last, straight_shift, straight_swap_last, IsCombination, combination_of_ends, determinant_along}
 use Rattle.plane.proofs.Turns.{weights_positive}
-use Rattle.plane.specs.Order.{IsBefore, IsBetween, IsBeyond}
-use Rattle.plane.specs.Point.{IsSame, Point, Triple, whole}
-use Rattle.plane.specs.Segment.{MeetElsewhere, MeetOnlyAt}
-use Rattle.plane.specs.Turn.{IsStraight, determinant}
+use Rattle.plane.specs.Prelude.{determinant, IsBefore, IsBetween, IsBeyond, IsSame, IsStraight, MeetElsewhere, MeetOnlyAt, Point, Triple}
+use Rattle.plane.specs.Prelude.{whole}
 
 -- ---- there alone
 

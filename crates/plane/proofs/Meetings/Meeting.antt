@@ -7,9 +7,7 @@ use Rattle.integer_algebra.proofs.Polynomial.{lit, var, ◌⊕◌, ◌⊖◌, �
 use Rattle.plane.proofs.Points.{same_sym}
 use Rattle.plane.proofs.Turns.{on_of_combination, written_determinant}
 use Rattle.plane.specs.Line.{along, cross_product, mediant}
-use Rattle.plane.specs.Point.{IsPoint, IsSame, Point, Triple, whole}
-use Rattle.plane.specs.Segment.{On}
-use Rattle.plane.specs.Turn.{IsStraight, determinant}
+use Rattle.plane.specs.Prelude.{determinant, IsPoint, IsSame, IsStraight, On, Point, Triple, whole}
 
 -- the determinant is the cross product of the way from a to b and of how far p is past a
 pub determinant_by_offsets : (a b : Point) (p : Triple) →

@@ -14,9 +14,7 @@ use Rattle.plane.proofs.Turns.{IsCombination, on_of_combination, determinant as 
 use Rattle.plane.proofs.Turns.{weights_positive}
 use Rattle.plane.specs.Beside.{IsBeside}
 use Rattle.plane.specs.Box.{BoxesMeet}
-use Rattle.plane.specs.Point.{IsPoint, Triple, Point, whole}
-use Rattle.plane.specs.Segment.{Meet}
-use Rattle.plane.specs.Turn.{determinant}
+use Rattle.plane.specs.Prelude.{determinant, IsPoint, Meet, Point, Triple, whole}
 
 -- ---- the crossing
 

@@ -10,9 +10,7 @@ use Rattle.integer_algebra.proofs.Signs.{mul_nonnegative, mul_order}
 use Rattle.plane.proofs.Segments.{not_positive_between, on_or_separated}
 use Rattle.plane.proofs.Turns.{linear, IsCombination, combination_of, determinant_is_linear, linear_along, on_of_combination}
 use Rattle.plane.proofs.Turns.{weights_positive, parts, determinant as det, written_determinant}
-use Rattle.plane.specs.Point.{IsPoint, IsSame, Triple}
-use Rattle.plane.specs.Segment.{Meet, On}
-use Rattle.plane.specs.Turn.{IsLeft, IsRight, IsStraight, determinant}
+use Rattle.plane.specs.Prelude.{determinant, IsLeft, IsPoint, IsRight, IsSame, IsStraight, Meet, On, Triple}
 
 -- the mediant of n times x, and c: the greater n, the nearer to x
 abbrev pub toward : Triple → Triple → ℕ → Triple

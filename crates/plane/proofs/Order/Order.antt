@@ -2,8 +2,7 @@
 use Rattle.std.proofs.Common.{◌≡◌, ◌⊎◌, inl, inr, subst, ◌-ℤ◌, ◌≤ℤ◌, arith, sym}
 use Rattle.std.proofs.lemmas.Int.{ints}
 use Rattle.integer_algebra.proofs.Signs.{Sign, is_negative, is_positive, is_zero, sign}
-use Rattle.plane.specs.Order.{IsBefore, IsBetween, Precedes}
-use Rattle.plane.specs.Point.{Point, whole}
+use Rattle.plane.specs.Prelude.{IsBefore, IsBetween, Point, Precedes, whole}
 
 -- how two points compare
 pub data Comparison (p q : Point) : Type 0 where

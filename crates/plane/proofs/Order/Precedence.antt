@@ -6,8 +6,7 @@ use Rattle.integer_algebra.proofs.Laws.{add-mul, mul-add}
 use Rattle.integer_algebra.proofs.Signs.{Comparison, comparison, is_above, is_below, is_equal}
 use Rattle.integer_algebra.proofs.SignSteps.{weak_order}
 use Rattle.plane.specs.Line.{mediant}
-use Rattle.plane.specs.Order.{Precedes}
-use Rattle.plane.specs.Point.{IsPoint, IsSame, Triple}
+use Rattle.plane.specs.Prelude.{IsPoint, IsSame, Precedes, Triple}
 
 -- p comes before q, or they are the same
 abbrev pub NotAfter : Triple → Triple → Type 0

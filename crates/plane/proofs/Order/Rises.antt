@@ -2,8 +2,7 @@
 use Rattle.std.proofs.Common.{◌≡◌, [], ◌∷◌, refl, ℕ, ◌+◌, ◌*◌, ℤ, ◌-ℤ◌, ◌*ℤ◌}
 use Rattle.integer_algebra.proofs.Polynomial.{Polynomial, var, ◌⊖◌, ◌⊗◌, same_value}
 use Rattle.plane.proofs.Turns.{parts, determinant as det}
-use Rattle.plane.specs.Point.{Triple}
-use Rattle.plane.specs.Turn.{determinant}
+use Rattle.plane.specs.Prelude.{determinant, Triple}
 
 -- how far v is above p, times a positive number where both are points
 abbrev pub rise : Triple → Triple → ℤ

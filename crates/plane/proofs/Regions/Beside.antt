@@ -14,10 +14,8 @@ use Rattle.plane.proofs.Regions.Sides.{IsNotRight}
 use Rattle.plane.proofs.Segments.{same_without_last}
 use Rattle.plane.proofs.Turns.{IsCombination, determinant_along, determinant_same_ends, determinant_same_last}
 use Rattle.plane.specs.Convex.{AreConvex, corner}
-use Rattle.plane.specs.Point.{IsSame, Triple}
+use Rattle.plane.specs.Prelude.{determinant, IsLeft, IsRight, IsSame, IsStraight, On, Triple}
 use Rattle.plane.specs.Region.{IsInRegion}
-use Rattle.plane.specs.Segment.{On}
-use Rattle.plane.specs.Turn.{IsLeft, IsRight, IsStraight, determinant}
 
 -- ---- regions of one corner and of two
 

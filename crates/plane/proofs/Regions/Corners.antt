@@ -8,10 +8,8 @@ use Rattle.integer_algebra.proofs.Laws.{zero-mul}
 use Rattle.integer_algebra.proofs.Signs.{mul_positive}
 use Rattle.plane.proofs.Turns.{determinant_same, determinant_same_last, determinant_shift, determinant_shift_back}
 use Rattle.plane.specs.Convex.{AreConvex, corner}
-use Rattle.plane.specs.Order.{Precedes}
-use Rattle.plane.specs.Point.{IsPoint, IsSame, Triple}
+use Rattle.plane.specs.Prelude.{determinant, IsLeft, IsPoint, IsSame, Precedes, Triple}
 use Rattle.plane.specs.Region.{AreCorners, corner_at}
-use Rattle.plane.specs.Turn.{IsLeft, determinant}
 
 -- ---- turns to the left
 

@@ -8,8 +8,7 @@ use Rattle.plane.proofs.Regions.LineMeetings.{Ends, IsMeeting, at_corner, at_mee
 use Rattle.plane.proofs.Regions.Weighing.{mean_some_positive}
 use Rattle.plane.proofs.Turns.{determinant_along, determinant_same, determinant_same_ends, determinant_same_last, determinant_shift_back}
 use Rattle.plane.specs.Convex.{AreConvex, corner}
-use Rattle.plane.specs.Point.{IsPoint, IsSame, Triple}
-use Rattle.plane.specs.Turn.{IsLeft, IsStraight, determinant}
+use Rattle.plane.specs.Prelude.{determinant, IsLeft, IsPoint, IsSame, IsStraight, Triple}
 
 -- a point left of a line is none on it
 pub left_not_straight : (a b c x : Triple) → IsPoint x → IsLeft a b c → IsStraight a b x → ¬ (IsSame c x)

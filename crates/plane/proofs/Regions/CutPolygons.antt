@@ -17,10 +17,8 @@ use Rattle.plane.proofs.Segments.{on_first_end, on_same_point}
 use Rattle.plane.proofs.Turns.{determinant_along, determinant_along_first, determinant_same_first, determinant_same_last, determinant_shift_back}
 use Rattle.plane.proofs.Turns.{determinant_swap_first, on_of_combination}
 use Rattle.plane.specs.Convex.{AreConvex, corner}
-use Rattle.plane.specs.Point.{IsPoint, IsSame, Triple}
+use Rattle.plane.specs.Prelude.{IsLeft, IsPoint, IsRight, IsSame, IsStraight, On, Triple}
 use Rattle.plane.specs.Region.{IsInRegion}
-use Rattle.plane.specs.Segment.{On}
-use Rattle.plane.specs.Turn.{IsLeft, IsRight, IsStraight}
 
 -- what is negative is not positive
 below_not_above : {z : ℤ} → z <ℤ pos 0 → z ≤ℤ pos 0

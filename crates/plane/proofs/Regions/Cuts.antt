@@ -20,11 +20,8 @@ use Rattle.plane.proofs.Segments.{on_first_end, on_last_end, on_nested, on_one_s
 use Rattle.plane.proofs.Turns.{combination_of, determinant_along, on_of_combination}
 use Rattle.plane.specs.Convex.{AreConvex, corner}
 use Rattle.plane.specs.Cut.{IsCut, IsUncut}
-use Rattle.plane.specs.Order.{Precedes}
-use Rattle.plane.specs.Point.{IsPoint, IsSame, Triple}
+use Rattle.plane.specs.Prelude.{determinant, IsPoint, IsRight, IsSame, IsStraight, On, Precedes, Triple}
 use Rattle.plane.specs.Region.{IsInRegion, IsCornerList}
-use Rattle.plane.specs.Segment.{On}
-use Rattle.plane.specs.Turn.{IsRight, IsStraight, determinant}
 
 -- from a point on a line to one right of it, a point that is not right of the line is the first
 first_not_right : (a b c d p : Triple) → IsPoint c → IsPoint d → IsPoint p → IsStraight a b c → IsRight a b d → IsNotRight a b p → On p c

@@ -11,9 +11,8 @@ use Rattle.plane.proofs.Regions.Weighing.{three_negative, three_not_negative}
 use Rattle.plane.proofs.Turns.{combination_of, determinant_along, determinant_is_linear, determinant_same, determinant_swap_first, four_triples}
 use Rattle.plane.proofs.Turns.{four_triples_in_W, four_triples_in_X, four_triples_in_Y, weights_positive}
 use Rattle.plane.specs.Convex.{AreConvex, corner}
-use Rattle.plane.specs.Point.{IsPoint, Triple}
+use Rattle.plane.specs.Prelude.{determinant, IsPoint, IsRight, Triple}
 use Rattle.plane.specs.Region.{IsInRegion}
-use Rattle.plane.specs.Turn.{IsRight, determinant}
 
 -- k p = u a + v b + w c as triples, where k is positive and no weight is negative
 pub record IsMeanOfThree (p a b c : Triple) : Type 0 where

@@ -10,8 +10,7 @@ use Rattle.plane.proofs.Meetings.{no_value}
 use Rattle.plane.proofs.Segments.{one_meeting}
 use Rattle.plane.proofs.Turns.{IsCombination, determinant_along, written_determinant}
 use Rattle.plane.specs.Line.{cross_product}
-use Rattle.plane.specs.Point.{IsPoint, IsSame, Point, Triple, whole}
-use Rattle.plane.specs.Turn.{IsLeft, IsRight, IsStraight, determinant}
+use Rattle.plane.specs.Prelude.{determinant, IsLeft, IsPoint, IsRight, IsSame, IsStraight, Point, Triple, whole}
 
 -- x is strictly between c and d, and on the line a b
 pub record IsMeeting (a b c d x : Triple) : Type 0 where

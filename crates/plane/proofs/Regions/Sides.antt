@@ -6,9 +6,8 @@ use Rattle.std.proofs.lemmas.List.{length_push}
 use Rattle.integer_algebra.proofs.SignSteps.{at_least_unless}
 use Rattle.plane.proofs.Regions.Corners.{corner_within, at_first, first_corner, length_first, new_corner, old_corner}
 use Rattle.plane.specs.Convex.{corner}
-use Rattle.plane.specs.Point.{Triple}
+use Rattle.plane.specs.Prelude.{determinant, Triple}
 use Rattle.plane.specs.Region.{IsInRegion, IsRightOfNone}
-use Rattle.plane.specs.Turn.{determinant}
 
 -- p is not right of the way from a to b
 abbrev pub IsNotRight : Triple → Triple → Triple → Type 0

@@ -4,11 +4,9 @@ use Rattle.std.proofs.lemmas.Int.{ints}
 use Rattle.plane.proofs.Regions.Corners.{corners_of_convex}
 use Rattle.plane.proofs.Regions.Sides.{IsInSides, IsNotRight, region_of_sides, sides_of_region}
 use Rattle.plane.specs.Convex.{AreConvex, corner}
-use Rattle.plane.specs.Order.{Precedes}
-use Rattle.plane.specs.Point.{IsPoint, Triple, whole}
+use Rattle.plane.specs.Prelude.{IsLeft, IsPoint, Precedes, Triple, whole}
 use Rattle.plane.specs.Region.{IsCornerList}
 use Rattle.plane.specs.Square.{IsInSquare}
-use Rattle.plane.specs.Turn.{IsLeft}
 use Rattle.plane.specs.declared.limits.TheConstants.{MAX_COORDINATE}
 
 -- the limit to the right and upward, and to the left and downward

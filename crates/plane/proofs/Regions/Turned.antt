@@ -7,9 +7,8 @@ use Rattle.plane.proofs.Regions.Corners.{left_at, left_shift, left_shift_back}
 use Rattle.plane.proofs.Regions.Sides.{IsInSides, not_right_at, region_of_sides, sides_of_region}
 use Rattle.plane.proofs.Segments.{on_reversed}
 use Rattle.plane.specs.Convex.{AreConvex, corner}
-use Rattle.plane.specs.Point.{IsPoint, IsSame, Triple}
+use Rattle.plane.specs.Prelude.{IsLeft, IsPoint, IsSame, Triple}
 use Rattle.plane.specs.Region.{IsInRegion}
-use Rattle.plane.specs.Turn.{IsLeft}
 
 module _ (xs ys : List Triple) where
   -- first come those that were last,

@@ -12,8 +12,7 @@ use Rattle.plane.proofs.Points.{same_sym, same_trans, same_whole, whole_is_point
 use Rattle.plane.proofs.Segments.Combinations.{combination_of_same, on_nested, same_without_first, same_without_last}
 use Rattle.plane.proofs.Segments.Segments.{on_first_end, on_same_point}
 use Rattle.plane.proofs.Turns.{IsCombination, combination_of, on_of_combination, weights_positive}
-use Rattle.plane.specs.Point.{IsPoint, IsSame, Point, Triple, whole}
-use Rattle.plane.specs.Segment.{On}
+use Rattle.plane.specs.Prelude.{IsPoint, IsSame, On, Point, Triple, whole}
 
 -- ---- one point is between the first end and the other
 

@@ -7,8 +7,7 @@ use Rattle.integer_algebra.proofs.Polynomial.{var, ◌⊕◌, ◌⊗◌, same_va
 use Rattle.integer_algebra.proofs.SignSteps.{mean_not_positive, not_both, weak}
 use Rattle.integer_algebra.proofs.Signs.{cancel_equal, is_negative, is_positive, is_zero, mul_nonpositive, mul_positive, sign}
 use Rattle.plane.proofs.Turns.{linear, IsCombination, combination_of, linear_along, on_of_combination}
-use Rattle.plane.specs.Point.{IsPoint, IsSame, Triple}
-use Rattle.plane.specs.Segment.{On}
+use Rattle.plane.specs.Prelude.{IsPoint, IsSame, On, Triple}
 
 -- ---- a segment within another
 

@@ -6,8 +6,7 @@ use Rattle.integer_algebra.proofs.Polynomial.{Polynomial, lit, var, ◌⊕◌, �
 use Rattle.integer_algebra.proofs.Signs.{is_negative, is_positive, is_zero, sign, square_nonnegative, square_positive}
 use Rattle.plane.proofs.Order.{rise, run, written_rise, written_run}
 use Rattle.plane.proofs.Turns.{linear, parts, IsCombination, determinant as det}
-use Rattle.plane.specs.Point.{IsSame, Triple}
-use Rattle.plane.specs.Turn.{IsStraight, determinant}
+use Rattle.plane.specs.Prelude.{determinant, IsSame, IsStraight, Triple}
 
 -- how far v is from a in the direction of b, times a number that is not negative
 abbrev pub along : Triple → Triple → Triple → ℤ

@@ -6,8 +6,7 @@ use Rattle.plane.proofs.Order.{same_coordinates}
 use Rattle.plane.proofs.Points.{whole_is_point}
 use Rattle.plane.proofs.Segments.Sides.{IsWithin}
 use Rattle.plane.proofs.Turns.{on_of_combination}
-use Rattle.plane.specs.Point.{IsPoint, IsSame, Point, Triple, whole}
-use Rattle.plane.specs.Segment.{On}
+use Rattle.plane.specs.Prelude.{IsPoint, IsSame, On, Point, Triple, whole}
 
 -- the middle of the segment from u to w
 abbrev pub middle : Point → Point → Triple

@@ -11,10 +11,7 @@ use Rattle.plane.proofs.Points.{same_sym}
 use Rattle.plane.proofs.Segments.Segments.{combination_is_straight, on_first_end, on_same_point, zero_of}
 use Rattle.plane.proofs.Turns.{determinant_same_ends, parts, straight_shift, straight_swap_last, IsCombination, combination_of, determinant_along}
 use Rattle.plane.proofs.Turns.{determinant_along_first, on_of_combination, weights_positive, determinant as det}
-use Rattle.plane.specs.Order.{Precedes}
-use Rattle.plane.specs.Point.{IsPoint, Triple}
-use Rattle.plane.specs.Segment.{On}
-use Rattle.plane.specs.Turn.{IsStraight}
+use Rattle.plane.specs.Prelude.{IsPoint, IsStraight, On, Precedes, Triple}
 
 -- ---- a point on the segment is between the ends
 

@@ -10,10 +10,7 @@ use Rattle.plane.proofs.Order.{x_at_most, y_at_most}
 use Rattle.plane.proofs.Points.{whole_is_point}
 use Rattle.plane.proofs.Segments.Segments.{combination_is_straight, on_first_end, on_reversed}
 use Rattle.plane.proofs.Turns.{determinant_of_whole, straight_swap_first, IsCombination, combination_of_ends, on_of_combination, weights_positive}
-use Rattle.plane.specs.Order.{IsBefore, IsBetween}
-use Rattle.plane.specs.Point.{Point, whole}
-use Rattle.plane.specs.Segment.{On}
-use Rattle.plane.specs.Turn.{IsStraight}
+use Rattle.plane.specs.Prelude.{IsBefore, IsBetween, IsStraight, On, Point, whole}
 
 -- ---- a point on the segment is between the ends
 

@@ -7,10 +7,7 @@ use Rattle.plane.proofs.Segments.OnSegment.{on_segment_from, on_vertical}
 use Rattle.plane.proofs.Segments.Segments.{meet_reversed_first, meet_reversed_second, on_first_end}
 use Rattle.plane.proofs.Turns.{straight_shift, straight_shift_back, straight_swap_first, straight_swap_last}
 use Rattle.plane.specs.Box.{BoxesMeet}
-use Rattle.plane.specs.Order.{IsBefore}
-use Rattle.plane.specs.Point.{Point, Triple, whole}
-use Rattle.plane.specs.Segment.{Meet}
-use Rattle.plane.specs.Turn.{IsStraight}
+use Rattle.plane.specs.Prelude.{IsBefore, IsStraight, Meet, Point, Triple, whole}
 
 -- ---- four points on one line
 

@@ -6,9 +6,7 @@ use Rattle.plane.proofs.Segments.OnByOrder.{on_from_order, on_not_after, on_not_
 use Rattle.plane.proofs.Segments.Segments.{on_first_end, on_last_end, on_reversed, zero_of}
 use Rattle.plane.proofs.Turns.{determinant_same_ends, straight_shift, straight_swap_first, straight_swap_last, combination_of}
 use Rattle.plane.proofs.Turns.{determinant_along_first}
-use Rattle.plane.specs.Point.{IsPoint, Triple}
-use Rattle.plane.specs.Segment.{On}
-use Rattle.plane.specs.Turn.{IsStraight}
+use Rattle.plane.specs.Prelude.{IsPoint, IsStraight, On, Triple}
 
 -- on a segment whose ends are in order, a point is between them in that order
 in_order : (p a b : Triple) → IsPoint p → IsPoint a → IsPoint b → NotAfter a b → On p a b → NotAfter a p × NotAfter p b

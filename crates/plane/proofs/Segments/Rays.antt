@@ -7,9 +7,7 @@ use Rattle.integer_algebra.proofs.SignSteps.{opposite_positive, weak}
 use Rattle.integer_algebra.proofs.Signs.{lt_or_le, mul_positive}
 use Rattle.plane.proofs.Segments.Sides.{within_from}
 use Rattle.plane.proofs.Turns.{four_triples_in_W, four_triples_in_X, four_triples_in_Y, on_of_combination}
-use Rattle.plane.specs.Point.{IsPoint, IsSame, Triple}
-use Rattle.plane.specs.Segment.{On}
-use Rattle.plane.specs.Turn.{IsLeft, IsRight, IsStraight, determinant}
+use Rattle.plane.specs.Prelude.{determinant, IsLeft, IsPoint, IsRight, IsSame, IsStraight, On, Triple}
 
 -- one part of an equation, with another part on the other side
 moved : (k l m u v x : ℤ) → k *ℤ u ≡ l *ℤ v +ℤ m *ℤ x → m *ℤ x ≡ neg_ℤ l *ℤ v +ℤ k *ℤ u

@@ -5,9 +5,7 @@ use Rattle.integer_algebra.proofs.Polynomial.{var, lit, ◌⊕◌, ◌⊗◌, sa
 use Rattle.integer_algebra.proofs.Signs.{cancel_equal}
 use Rattle.plane.proofs.Points.{same_sym, same_trans}
 use Rattle.plane.proofs.Turns.{determinant_same_ends, determinant_same_last, IsCombination, combination_of, determinant_along}
-use Rattle.plane.specs.Point.{IsPoint, IsSame, Triple}
-use Rattle.plane.specs.Segment.{Meet, On}
-use Rattle.plane.specs.Turn.{IsStraight}
+use Rattle.plane.specs.Prelude.{IsPoint, IsSame, IsStraight, Meet, On, Triple}
 
 -- ---- ends and directions
 

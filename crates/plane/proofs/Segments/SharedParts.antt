@@ -6,9 +6,7 @@ use Rattle.integer_algebra.proofs.Polynomial.{Polynomial, var, lit, ◌⊖◌, �
 use Rattle.integer_algebra.proofs.Signs.{factor_zero}
 use Rattle.plane.proofs.Turns.{combination_of_ends, determinant_along, weights_positive, written_determinant}
 use Rattle.plane.specs.Line.{cross_product}
-use Rattle.plane.specs.Point.{IsPoint, IsSame, Point, Triple, whole}
-use Rattle.plane.specs.Segment.{On}
-use Rattle.plane.specs.Turn.{IsStraight, determinant}
+use Rattle.plane.specs.Prelude.{determinant, IsPoint, IsSame, IsStraight, On, Point, Triple, whole}
 
 -- ---- lines that are not parallel
 

@@ -14,9 +14,7 @@ use Rattle.plane.proofs.Segments.Lengthwise.{square, square_not_negative}
 use Rattle.plane.proofs.Segments.Segments.{on_first_end, on_same_point, on_is_straight}
 use Rattle.plane.proofs.Turns.{determinant_same_ends, determinant_same_last, determinant_swap_first, linear, determinant_is_linear}
 use Rattle.plane.proofs.Turns.{on_of_combination, determinant_same, IsCombination, combination_of, determinant_along, weights_positive}
-use Rattle.plane.specs.Point.{IsPoint, Triple, IsSame, Point, whole}
-use Rattle.plane.specs.Segment.{On}
-use Rattle.plane.specs.Turn.{determinant, IsLeft, IsRight, IsStraight}
+use Rattle.plane.specs.Prelude.{determinant, IsLeft, IsPoint, IsRight, IsSame, IsStraight, On, Point, Triple, whole}
 
 -- a linear functional is positive at x, and not positive at a and at b
 pub record Separated (x a b : Triple) : Type 0 where

@@ -3,8 +3,7 @@ use Rattle.std.proofs.Common.{◌≡◌, List, [], ◌∷◌, refl, ap, ◌∙�
 use Rattle.std.proofs.lemmas.Int.{ints}
 use Rattle.integer_algebra.proofs.Polynomial.{Polynomial, var, lit, ◌⊕◌, ◌⊖◌, ◌⊗◌, same_value, zero_value}
 use Rattle.plane.proofs.Turns.Written.{determinant as det, pairing, written_determinant}
-use Rattle.plane.specs.Point.{Point, Triple, whole}
-use Rattle.plane.specs.Turn.{determinant, IsStraight}
+use Rattle.plane.specs.Prelude.{determinant, IsStraight, Point, Triple, whole}
 
 -- the parts of some triples, and further integers behind them: the variables of a written polynomial
 abbrev pub parts : List Triple → List ℤ → List ℤ

@@ -9,9 +9,7 @@ use Rattle.integer_algebra.proofs.Weights.{some_weight}
 use Rattle.plane.proofs.Points.{whole_is_point}
 use Rattle.plane.proofs.Turns.Determinants.{determinant_shift, linear, parts}
 use Rattle.plane.proofs.Turns.Written.{determinant as det}
-use Rattle.plane.specs.Point.{IsPoint, Point, Triple, whole, IsSame}
-use Rattle.plane.specs.Segment.{On}
-use Rattle.plane.specs.Turn.{determinant}
+use Rattle.plane.specs.Prelude.{determinant, IsPoint, IsSame, On, Point, Triple, whole}
 
 -- k p = l a + m b as triples, where k is positive and l and m are not negative
 pub record IsCombination (p a b : Triple) : Type 0 where

@@ -5,15 +5,12 @@ use Rattle.std.proofs.Common.{pos, ◌<ℤ◌}
 use Rattle.std.proofs.Math.Seq.{drop-append_seam, take-append-add}
 use Rattle.std.proofs.lemmas.Int.{ints}
 use Rattle.std.proofs.lemmas.List.{append_assoc, get_or_at, length-append}
-use Rattle.plane.specs.Point.{Point, whole}
-use Rattle.plane.specs.Turn.{IsLeft}
+use Rattle.plane.specs.Prelude.{IsLeft, Point, whole}
 use Rattle.rings.proofs.Inside.{apart_rotated, in_rotated}
 use Rattle.rings.proofs.Simple.{apart_of_simple, simple_of_apart}
 use Rattle.rings.proofs.Vertices.{vertex_in_range, parts_at, HasPoint, Farthest}
 use Rattle.rings.specs.Apart.{IsApartRing}
-use Rattle.rings.specs.Inside.{IsIn}
-use Rattle.rings.specs.Ring.{origin, vertex}
-use Rattle.rings.specs.Simple.{IsSimple}
+use Rattle.rings.specs.Prelude.{IsIn, IsSimple, origin, vertex}
 use Rattle.rings.specs.Winding.{RunsCounterclockwise}
 use Rattle.ring_laws.proofs.Cuts.CutDirection.{first_apart, second_apart, pieces_run}
 use Rattle.ring_laws.proofs.Cuts.CutLaw.{in_both, in_piece, in_ring_from_first, in_ring_from_second}

@@ -5,16 +5,14 @@ use Rattle.std.proofs.lemmas.Int.{ints}
 use Rattle.std.proofs.lemmas.List.{length-append}
 use Rattle.plane.proofs.Points.{same_sym, whole_is_point}
 use Rattle.plane.proofs.Segments.{on_last_end, left_not_on, right_not_on, on_first_end, on_reversed, on_same_point}
-use Rattle.plane.specs.Point.{IsPoint, IsSame, Point, Triple, whole}
-use Rattle.plane.specs.Segment.{On}
+use Rattle.plane.specs.Prelude.{IsPoint, IsSame, On, Point, Triple, whole}
 use Rattle.rings.proofs.Crossings.{winding_law, winding_law_crossed}
 use Rattle.rings.proofs.Inside.{on_some_or_not}
 use Rattle.rings.proofs.Simple.{proper_edges}
 use Rattle.rings.proofs.Vertices.{closed_edges_of, on_some_cases, on_some_left, on_some_right, on_none_with, edge_with, on_some_of}
 use Rattle.rings.specs.Across.{Misses}
 use Rattle.rings.specs.Apart.{IsApartRing}
-use Rattle.rings.specs.Edge.{Edge, HasEdge, IsClosed, IsOn, IsOnSome, edges_of, edge, edges_along}
-use Rattle.rings.specs.Inside.{winding, IsIn}
+use Rattle.rings.specs.Prelude.{Edge, edge, edges_along, edges_of, HasEdge, IsClosed, IsIn, IsOn, IsOnSome, winding}
 use Rattle.rings.specs.Winding.{WindsUpTo}
 use Rattle.ring_laws.proofs.Cuts.CutDirection.{wind_together}
 use Rattle.ring_laws.proofs.Diagonals.{in_if_wound, wound}

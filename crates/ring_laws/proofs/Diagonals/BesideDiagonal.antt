@@ -3,8 +3,7 @@ use Rattle.std.proofs.Common.{◌≡◌, inl, inr, sym, ◌∙◌, ℤ, pos, ◌
 use Rattle.plane.proofs.Segments.{on_last_end, left_not_on, right_not_on}
 use Rattle.plane.specs.Point.{IsPoint, IsSame, Triple, whole}
 use Rattle.rings.proofs.Crossings.{winding_law, winding_law_crossed}
-use Rattle.rings.specs.Edge.{Edge, IsClosed, IsOn, IsOnSome}
-use Rattle.rings.specs.Inside.{winding}
+use Rattle.rings.specs.Prelude.{Edge, IsClosed, IsOn, IsOnSome, winding}
 use Rattle.rings.specs.Winding.{WindsUpTo}
 use Rattle.ring_laws.proofs.Ears.{IsUnit, both_up_to_one, same_units}
 use Rattle.ring_laws.proofs.Triangles.{BesideEdge, beside_edge}

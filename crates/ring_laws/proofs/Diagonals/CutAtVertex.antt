@@ -3,13 +3,11 @@ use Rattle.std.proofs.Common.{List, [], arith, drop, inl, inr, length, refl, sub
 use Rattle.std.proofs.lemmas.Int.{ints}
 use Rattle.std.proofs.lemmas.List.{take-append-drop}
 use Rattle.plane.proofs.Turns.{determinant_swap_ends}
-use Rattle.plane.specs.Point.{Point, whole}
-use Rattle.plane.specs.Turn.{IsLeft, IsRight}
+use Rattle.plane.specs.Prelude.{IsLeft, IsRight, Point, whole}
 use Rattle.rings.proofs.Simple.{apart_of_simple}
 use Rattle.rings.proofs.Vertices.{HasPoint, farthest_or_none, has_swapped}
 use Rattle.rings.specs.Apart.{IsApartRing}
-use Rattle.rings.specs.Ring.{vertex}
-use Rattle.rings.specs.Simple.{IsSimple}
+use Rattle.rings.specs.Prelude.{IsSimple, vertex}
 use Rattle.rings.specs.Winding.{IsLeastVertex}
 use Rattle.ring_laws.proofs.Diagonals.CornerNumbers.{AreBoth, far_of, has_other, in_corner, neither_back, none_of}
 use Rattle.ring_laws.proofs.Diagonals.CutRule.{base_diagonal, base_diagonal_right, farthest_diagonal, farthest_diagonal_right}

@@ -4,13 +4,11 @@ use Rattle.std.proofs.Common.{◌≡◌, sym, subst, ap, ◌≤◌, List, [], �
 use Rattle.std.proofs.lemmas.Int.{ints}
 use Rattle.std.proofs.lemmas.List.{append_assoc, length-append, length-reverse}
 use Rattle.plane.proofs.Turns.{determinant_shift_back, determinant_swap_ends}
-use Rattle.plane.specs.Point.{Point, whole}
-use Rattle.plane.specs.Triangle.{IsInTriangle}
-use Rattle.plane.specs.Turn.{IsLeft, IsRight}
+use Rattle.plane.specs.Prelude.{IsInTriangle, IsLeft, IsRight, Point, whole}
 use Rattle.rings.proofs.Inside.{apart_rotated, has_edge_rotated, apart_turned, turned_corner}
 use Rattle.rings.proofs.Vertices.{meet_reversed, HasPoint, Farthest, has_cases, has_in_order, has_left, has_reversed, has_right}
 use Rattle.rings.specs.Apart.{IsApartRing}
-use Rattle.rings.specs.Edge.{Edge, HasEdge, edge, edges_of}
+use Rattle.rings.specs.Edge.{Edge, edge, edges_of, HasEdge}
 use Rattle.rings.specs.Winding.{RunsCounterclockwise}
 use Rattle.ring_laws.proofs.Diagonals.Diagonals.{cut_is_diagonal, diagonal_backward, diagonal_rotated, diagonal_turned}
 use Rattle.ring_laws.proofs.Ears.{apart_without, meets_base, rest_counterclockwise, NoneBefore}

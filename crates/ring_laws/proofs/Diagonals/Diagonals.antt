@@ -4,8 +4,7 @@ use Rattle.std.proofs.Common.{◌≡◌, inl, inr, refl, sym, subst, ◌<◌, �
 use Rattle.std.proofs.lemmas.Int.{ints}
 use Rattle.plane.proofs.Points.{same_sym, whole_is_point}
 use Rattle.plane.proofs.Segments.{on_reversed, middle, middle_first, middle_is_point, middle_last, middle_on, on_first_end}
-use Rattle.plane.specs.Point.{IsPoint, IsSame, Point, Triple, whole}
-use Rattle.plane.specs.Segment.{On}
+use Rattle.plane.specs.Prelude.{IsPoint, IsSame, On, Point, Triple, whole}
 use Rattle.rings.proofs.Crossings.{winding_odd}
 use Rattle.rings.proofs.Inside.{in_from_odd, has_edge_rotated, in_rotated, in_turned_iff}
 use Rattle.rings.proofs.Simple.{same_or_not}
@@ -13,9 +12,7 @@ use Rattle.rings.proofs.Turned.{edges_of-turned_round}
 use Rattle.rings.proofs.Vertices.{end_of_second, has_right, edge_with, on_some_of, meet_reversed, meet_swapped, HasPoint, edge_from}
 use Rattle.rings.proofs.Vertices.{backward, closed_edges_of, on_some_same, reversed, has_reversed, has_edge_backward}
 use Rattle.rings.specs.Apart.{IsApartRing, MeetAtEnds}
-use Rattle.rings.specs.Edge.{Edge, HasEdge, IsOn, IsOnSome, edge, edges_along, edges_of}
-use Rattle.rings.specs.Inside.{IsIn, winding}
-use Rattle.rings.specs.Orientation.{turned_round}
+use Rattle.rings.specs.Prelude.{Edge, edge, edges_along, edges_of, HasEdge, IsIn, IsOn, IsOnSome, turned_round, winding}
 use Rattle.rings.specs.Winding.{WindsUpTo}
 use Rattle.ring_laws.proofs.Diagonals.BesideDiagonal.{once_round_diagonal}
 use Rattle.ring_laws.proofs.Ears.{IsUnit, odd_unit}

@@ -5,7 +5,7 @@ use Rattle.integer_algebra.proofs.Signs.{lt_or_le}
 use Rattle.plane.proofs.Order.{same_coordinates}
 use Rattle.plane.specs.Point.{Point}
 use Rattle.rings.proofs.Vertices.{AllEnds, all_ends_map}
-use Rattle.rings.specs.Edge.{Edge, IsClosed, edge, growth}
+use Rattle.rings.specs.Edge.{Edge, edge, growth, IsClosed}
 
 -- a value that counts only where a number is below another
 counted : {x y : ℤ} → (x <ℤ y) ⊎ (y ≤ℤ x) → ℤ → ℤ

@@ -2,15 +2,12 @@
 use Rattle.std.proofs.Common.{◌≡◌, ◌⊎◌, inl, inr, refl, sym, subst, ap, ◌∙◌, pos, ◌+ℤ◌, List, [], ◌∷◌, ◌++◌, arith}
 use Rattle.std.proofs.lemmas.Int.{ints}
 use Rattle.integer_algebra.proofs.Polynomial.{var, lit, ◌⊕◌, ◌⊖◌, ◌⊗◌, same_value}
-use Rattle.plane.specs.Point.{Point, Triple, whole}
-use Rattle.plane.specs.Turn.{determinant}
+use Rattle.plane.specs.Prelude.{determinant, Point, Triple, whole}
 use Rattle.rings.proofs.Inside.{closed_swapped, on_some_swapped, swept_swapped, winding_swapped}
 use Rattle.rings.proofs.Vertices.{apart_among, apart_more, AreDistinct, HasPoint, distinct_vertices, ends_along, vertices_differ, closed_edges_of}
 use Rattle.rings.proofs.Vertices.{has_left, has_right, has_swapped, edges_along_append}
 use Rattle.rings.specs.Apart.{IsApartRing, MeetAtEnds}
-use Rattle.rings.specs.Edge.{Edge, HasEdge, HasEnd, IsClosed, IsOnSome, edge, edges_along, edges_of}
-use Rattle.rings.specs.Inside.{winding}
-use Rattle.rings.specs.Orientation.{doubled_area, swept}
+use Rattle.rings.specs.Prelude.{doubled_area, Edge, edge, edges_along, edges_of, HasEdge, HasEnd, IsClosed, IsOnSome, swept, winding}
 use Rattle.ring_laws.proofs.Triangles.{triangle}
 
 -- twice the area of a triangle is a determinant

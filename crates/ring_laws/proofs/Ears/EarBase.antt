@@ -5,14 +5,11 @@ use Rattle.integer_algebra.proofs.SignSteps.{not_both, turned_negative, zero_not
 use Rattle.plane.proofs.Points.{whole_is_point}
 use Rattle.plane.proofs.Segments.{on_is_straight, same_straight, stays_right}
 use Rattle.plane.proofs.Turns.{determinant_same_ends, determinant_same_first, determinant_same_last, determinant_swap_last}
-use Rattle.plane.specs.Point.{IsPoint, IsSame, Point, Triple, whole}
-use Rattle.plane.specs.Triangle.{IsInTriangle}
-use Rattle.plane.specs.Turn.{IsLeft, IsRight, IsStraight}
+use Rattle.plane.specs.Prelude.{IsInTriangle, IsLeft, IsPoint, IsRight, IsSame, IsStraight, Point, Triple, whole}
 use Rattle.rings.proofs.Crossings.{winding_law}
 use Rattle.rings.proofs.Inside.{extreme_point}
 use Rattle.rings.proofs.Vertices.{AllEnds, all_ends_map}
-use Rattle.rings.specs.Edge.{Edge, IsClosed, IsOnSome, edge}
-use Rattle.rings.specs.Inside.{winding}
+use Rattle.rings.specs.Prelude.{Edge, edge, IsClosed, IsOnSome, winding}
 use Rattle.ring_laws.proofs.Triangles.{between_in_triangle, middle_in_triangle}
 
 -- ---- the corners of a triangle

@@ -2,13 +2,10 @@
 use Rattle.std.proofs.Common.{ℤ, pos, negsuc, ◌≤ℤ◌, List, [], ◌∷◌, ◌++◌, ◌≡◌, ◌⊎◌, inl, inr, refl, sym, subst, arith}
 use Rattle.std.proofs.lemmas.Int.{ints}
 use Rattle.plane.proofs.Order.{x_at_most}
-use Rattle.plane.specs.Point.{IsPoint, Point, Triple, whole, IsSame}
-use Rattle.plane.specs.Triangle.{IsInTriangle}
-use Rattle.plane.specs.Turn.{IsLeft}
+use Rattle.plane.specs.Prelude.{IsInTriangle, IsLeft, IsPoint, IsSame, Point, Triple, whole}
 use Rattle.rings.proofs.Vertices.{end_of_second, HasPoint, end_of_ring, ends_along, AllEnds, all_ends_from, has_cases, has_left, on_each}
 use Rattle.rings.specs.Apart.{IsApartRing, IsCommonEnd, MeetAtEnds}
-use Rattle.rings.specs.Edge.{Edge, HasEdge, HasEnd, IsOn, edge, edges_along, edges_of, IsClosed, IsOnSome}
-use Rattle.rings.specs.Inside.{winding}
+use Rattle.rings.specs.Prelude.{Edge, edge, edges_along, edges_of, HasEdge, HasEnd, IsClosed, IsOn, IsOnSome, winding}
 use Rattle.rings.specs.Winding.{RunsClockwise, RunsCounterclockwise, WindsUpTo}
 use Rattle.ring_laws.proofs.Ears.BaseEnds.{base_ends}
 use Rattle.ring_laws.proofs.Ears.Corner.{apart_rest, area_ear, closed_rest, edges_at_corner, has_edge_of_corner, no_edge_across}

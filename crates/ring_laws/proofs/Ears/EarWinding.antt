@@ -9,15 +9,11 @@ use Rattle.plane.proofs.Points.{same_refl, same_sym, same_trans, whole_is_point}
 use Rattle.plane.proofs.Segments.{combination_is_straight, on_is_straight, on_last_end, on_reversed, middle, middle_first, middle_is_point}
 use Rattle.plane.proofs.Segments.{middle_last, middle_on, middle_within, first_end_on_line}
 use Rattle.plane.proofs.Turns.{straight_swap_first, written_determinant, determinant_swap_first}
-use Rattle.plane.specs.Point.{IsPoint, IsSame, Point, Triple, whole}
-use Rattle.plane.specs.Segment.{On}
-use Rattle.plane.specs.Triangle.{IsInTriangle}
-use Rattle.plane.specs.Turn.{IsLeft, determinant, IsRight}
+use Rattle.plane.specs.Prelude.{determinant, IsInTriangle, IsLeft, IsPoint, IsRight, IsSame, On, Point, Triple, whole}
 use Rattle.rings.proofs.Crossings.{winding_law, crossing_reversed}
 use Rattle.rings.proofs.Vertices.{AllEnds, misses_eventually}
 use Rattle.rings.specs.Across.{Misses}
-use Rattle.rings.specs.Edge.{Edge, IsClosed, IsOnSome, edge, growth}
-use Rattle.rings.specs.Inside.{winding, crossing}
+use Rattle.rings.specs.Prelude.{crossing, Edge, edge, growth, IsClosed, IsOnSome, winding}
 use Rattle.ring_laws.proofs.Ears.EarBase.{base_differs, on_others_straight, tip_is_right, winding_at_tip, winding_below}
 use Rattle.ring_laws.proofs.Ears.UpToOne.{none_and, one_and_none}
 use Rattle.ring_laws.proofs.Triangles.{across_edge, on_sides_in, between_in_triangle, left_at_first, middle_in_triangle, IsBeyond, IsInside}

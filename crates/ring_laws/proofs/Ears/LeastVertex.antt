@@ -2,8 +2,7 @@
 use Rattle.std.proofs.Common.{◌≡◌, inl, inr, refl, sym, subst, ap, ◌∙◌, ℕ, ◌+◌, ◌<◌, ◌≤◌, List, [], ◌∷◌, ◌++◌, length, take, drop, arith}
 use Rattle.std.proofs.lemmas.List.{drop_more, length-append, length-drop, length-take-le}
 use Rattle.plane.proofs.Order.{before_irrefl, before_or_not, before_trans}
-use Rattle.plane.specs.Order.{IsBefore}
-use Rattle.plane.specs.Point.{Point}
+use Rattle.plane.specs.Prelude.{IsBefore, Point}
 use Rattle.rings.proofs.Vertices.{HasPoint, has_number, number_of, vertex_in_range}
 use Rattle.rings.specs.Ring.{origin, vertex}
 use Rattle.rings.specs.Winding.{IsLeastVertex}

@@ -9,17 +9,13 @@ use Rattle.plane.proofs.Order.{Comparison, after, before, before_asym, compare_p
 use Rattle.plane.proofs.Points.{same_whole, whole_is_point}
 use Rattle.plane.proofs.Segments.{on_segment_from, on_first_end, on_last_end}
 use Rattle.plane.proofs.Turns.{straight_shift, determinant_swap_ends}
-use Rattle.plane.specs.Point.{Point, whole}
-use Rattle.plane.specs.Segment.{On}
-use Rattle.plane.specs.Turn.{IsStraight, determinant, IsLeft, IsRight}
+use Rattle.plane.specs.Prelude.{determinant, IsLeft, IsRight, IsStraight, On, Point, whole}
 use Rattle.rings.proofs.Inside.{apart_turned, turned_corner, winding_turned, apart_rotated, area_rotated, length_rotated, on_some_rotated}
 use Rattle.rings.proofs.Inside.{turn_rotated, winding_rotated, on_some_turned_iff}
 use Rattle.rings.proofs.Turned.{doubled_area-turned_round}
 use Rattle.rings.proofs.Vertices.{HasPoint, has_right, vertex_in_range, has_cases, has_in_order, has_left}
 use Rattle.rings.specs.Apart.{IsApartRing, IsCommonEnd}
-use Rattle.rings.specs.Edge.{edge}
-use Rattle.rings.specs.Orientation.{turn_at, turned_round}
-use Rattle.rings.specs.Ring.{origin, vertex}
+use Rattle.rings.specs.Prelude.{edge, origin, turn_at, turned_round, vertex}
 use Rattle.rings.specs.Winding.{IsLeastVertex, RunsAsItTurns, RunsClockwise, RunsCounterclockwise}
 use Rattle.ring_laws.proofs.Ears.Corner.{distinct_corner, has_edge_of_corner}
 use Rattle.ring_laws.proofs.Ears.LeastVertex.{NoneBefore, from_vertex, none_before_least}

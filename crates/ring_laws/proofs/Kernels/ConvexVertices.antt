@@ -9,18 +9,12 @@ use Rattle.plane.proofs.Points.{whole_is_point}
 use Rattle.plane.proofs.Segments.{middle, middle_is_point}
 use Rattle.plane.proofs.Segments.{on_is_straight, on_same_point, first_end_on_line, on_or_not}
 use Rattle.plane.proofs.Turns.{determinant_swap_first, straight_swap_first, determinant_same_ends, determinant_same_last, determinant_shift}
-use Rattle.plane.specs.Point.{IsPoint, Point, Triple, whole}
-use Rattle.plane.specs.Segment.{On}
-use Rattle.plane.specs.Turn.{IsRight, determinant}
+use Rattle.plane.specs.Prelude.{determinant, IsPoint, IsRight, On, Point, Triple, whole}
 use Rattle.rings.proofs.Simple.{proper_edges, apart_of_simple}
 use Rattle.rings.proofs.Vertices.{each_eventually, edge_with}
 use Rattle.rings.proofs.Vertices.{on_some_of}
 use Rattle.rings.specs.Apart.{IsApartRing}
-use Rattle.rings.specs.Edge.{Edge, HasEdge, edges_of, HasEnd, IsOn, edge}
-use Rattle.rings.specs.Inside.{IsIn}
-use Rattle.rings.specs.Orientation.{IsCounterclockwise, IsReflex, turn_at}
-use Rattle.rings.specs.Ring.{vertex}
-use Rattle.rings.specs.Simple.{IsSimple}
+use Rattle.rings.specs.Prelude.{Edge, edge, edges_of, HasEdge, HasEnd, IsCounterclockwise, IsIn, IsOn, IsReflex, IsSimple, turn_at, vertex}
 use Rattle.rings.specs.Winding.{WindsUpTo}
 use Rattle.ring_laws.proofs.Kernels.RightOfNone.{counterclockwise_winds}
 use Rattle.ring_laws.proofs.Triangles.{off_others, end_is_on, end_of_other}

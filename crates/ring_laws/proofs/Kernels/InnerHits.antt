@@ -4,14 +4,11 @@ use Rattle.std.proofs.Common.{◌≡◌, inl, inr, ◌<◌, pos, List, length}
 use Rattle.integer_algebra.proofs.Signs.{is_negative, is_positive, is_zero, sign}
 use Rattle.plane.proofs.Points.{same_sym, whole_is_point}
 use Rattle.plane.proofs.Segments.{leaves, on_first_end, on_last_end, on_reversed}
-use Rattle.plane.specs.Point.{IsPoint, IsSame, Point, Triple, whole}
-use Rattle.plane.specs.Segment.{On}
-use Rattle.plane.specs.Turn.{IsRight, determinant}
+use Rattle.plane.specs.Prelude.{determinant, IsPoint, IsRight, IsSame, On, Point, Triple, whole}
 use Rattle.rings.proofs.Vertices.{on_some_among, on_some_of, on_some_same}
 use Rattle.rings.specs.Across.{Misses}
 use Rattle.rings.specs.Apart.{IsApartRing}
-use Rattle.rings.specs.Edge.{Edge, HasEdge, IsOnSome, edges_of}
-use Rattle.rings.specs.Inside.{IsIn}
+use Rattle.rings.specs.Prelude.{Edge, edges_of, HasEdge, IsIn, IsOnSome}
 use Rattle.rings.specs.Winding.{WindsUpTo}
 use Rattle.ring_laws.proofs.Triangles.{off_others}
 use Rattle.ring_laws.proofs.Vertices.{IsStrictlyOn, left_is_in, rest_is_edge, rest_of}

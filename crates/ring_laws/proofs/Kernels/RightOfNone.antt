@@ -12,23 +12,16 @@ use Rattle.plane.proofs.Points.{same_sym, same_trans, whole_is_point}
 use Rattle.plane.proofs.Segments.{later_between, middle, middle_first, middle_is_point, middle_last, middle_on, on_first_end}
 use Rattle.plane.proofs.Segments.{on_is_straight, on_last_end, on_nested, on_reversed, on_same_point}
 use Rattle.plane.proofs.Turns.{combination_of, determinant_along}
-use Rattle.plane.specs.Point.{IsPoint, IsSame, Point, Triple, whole, IsInBounds, IsInLimit}
-use Rattle.plane.specs.Segment.{On}
+use Rattle.plane.specs.Prelude.{determinant, IsInBounds, IsInLimit, IsPoint, IsRight, IsSame, On, Point, Triple, whole}
 use Rattle.plane.specs.Square.{IsInSquare}
-use Rattle.plane.specs.Turn.{IsRight, determinant}
 use Rattle.plane.specs.declared.limits.TheConstants.{MAX_COORDINATE}
 use Rattle.rings.proofs.Crossings.{in_law, misses_swapped}
 use Rattle.rings.proofs.Inside.{in_or_not, IsLessFar, not_in_extreme}
 use Rattle.rings.proofs.Simple.{apart_of_simple, proper_edges, same_or_not}
 use Rattle.rings.proofs.Vertices.{FirstHit, edge_at, edge_number, edge_with, first_hit_or_misses, has_edge_at, misses_eventually}
 use Rattle.rings.proofs.Vertices.{on_some_from, vertex_mod, all_ends_from}
-use Rattle.rings.specs.Edge.{Edge, HasEdge, IsOnSome, edges_of}
-use Rattle.rings.specs.Inside.{IsIn}
+use Rattle.rings.specs.Prelude.{Edge, edges_of, HasEdge, IsCounterclockwise, IsIn, IsOnSome, IsSimple, Sees, vertex}
 use Rattle.rings.specs.Kernel.{IsInKernel, IsRightOfNoEdge}
-use Rattle.rings.specs.Orientation.{IsCounterclockwise}
-use Rattle.rings.specs.Ring.{vertex}
-use Rattle.rings.specs.Sees.{Sees}
-use Rattle.rings.specs.Simple.{IsSimple}
 use Rattle.rings.specs.Winding.{WindsUpTo}
 use Rattle.ring_laws.proofs.Kernels.InnerHits.{MeetsOnlyAt, right_of_edge}
 use Rattle.ring_laws.proofs.Kernels.VertexHits.{RightOfEdgeAt, alone_at_hit, right_at}

@@ -12,17 +12,12 @@ use Rattle.plane.proofs.Points.{same_refl, same_sym, same_whole, whole_is_point}
 use Rattle.plane.proofs.Segments.{combination_of_same, on_antisym, on_first_end, on_is_straight, on_last_end, on_nested, on_or_not}
 use Rattle.plane.proofs.Segments.{on_one_ray, on_reversed, on_same_point}
 use Rattle.plane.proofs.Turns.{combination_of, on_of_combination, weights_positive}
-use Rattle.plane.specs.Point.{IsPoint, IsSame, Point, Triple, whole}
-use Rattle.plane.specs.Segment.{On}
-use Rattle.plane.specs.Turn.{IsRight, determinant}
+use Rattle.plane.specs.Prelude.{determinant, IsPoint, IsRight, IsSame, On, Point, Triple, whole}
 use Rattle.rings.proofs.Crossings.{in_law}
 use Rattle.rings.proofs.Simple.{apart_of_simple, proper_edges}
 use Rattle.rings.proofs.Vertices.{FirstHit, each_eventually, edge_with, first_hit, on_some_of}
 use Rattle.rings.specs.Apart.{IsApartRing}
-use Rattle.rings.specs.Edge.{Edge, HasEdge, HasEnd, IsOn, IsOnSome, edge, edges_of}
-use Rattle.rings.specs.Inside.{IsIn}
-use Rattle.rings.specs.Ring.{vertex}
-use Rattle.rings.specs.Simple.{IsSimple}
+use Rattle.rings.specs.Prelude.{Edge, edge, edges_of, HasEdge, HasEnd, IsIn, IsOn, IsOnSome, IsSimple, vertex}
 use Rattle.rings.specs.Winding.{WindsUpTo}
 use Rattle.ring_laws.proofs.Kernels.InnerHits.{MeetsOnlyAt, right_of_edge}
 use Rattle.ring_laws.proofs.Triangles.{end_is_on, end_of_other}

@@ -4,14 +4,11 @@ use Rattle.std.proofs.lemmas.Int.{ints}
 use Rattle.plane.proofs.Nearness.{left_toward, right_toward, toward, toward_is_point, toward_on}
 use Rattle.plane.proofs.Points.{whole_is_point}
 use Rattle.plane.proofs.Segments.{on_is_straight, on_last_end, on_reversed, left_not_on, right_not_on, within_from}
-use Rattle.plane.specs.Point.{IsPoint, Point, Triple, whole}
-use Rattle.plane.specs.Segment.{On}
-use Rattle.plane.specs.Turn.{IsLeft, IsRight}
+use Rattle.plane.specs.Prelude.{IsLeft, IsPoint, IsRight, On, Point, Triple, whole}
 use Rattle.rings.proofs.Crossings.{winding_law, winding-append, crossing_reversed, left_swapped, right_swapped}
 use Rattle.rings.proofs.Vertices.{closed_edges_of, growth-append, growth-edges_along, on_some_cases, on_some_left, on_some_right, misses_eventually}
 use Rattle.rings.specs.Across.{Misses}
-use Rattle.rings.specs.Edge.{Edge, IsClosed, IsOnSome, edge, edges_along, edges_of}
-use Rattle.rings.specs.Inside.{crossing, winding}
+use Rattle.rings.specs.Prelude.{crossing, Edge, edge, edges_along, edges_of, IsClosed, IsOnSome, winding}
 use Rattle.ring_laws.proofs.Ears.{greater_is_one, one_and_none, smaller_is_zero}
 use Rattle.ring_laws.proofs.Pieces.TwoChains.{ArePieces, IsNeither, chain_on_diagonal, neither_swapped, swapped}
 use Rattle.ring_laws.proofs.Triangles.{across_edge}

@@ -4,16 +4,13 @@ use Rattle.std.proofs.Common.{◌≡◌, inl, inr, ◌∷◌, ◌++◌, ◌∙�
 use Rattle.std.proofs.lemmas.Int.{ints}
 use Rattle.plane.proofs.Points.{same_sym, whole_is_point}
 use Rattle.plane.proofs.Segments.{on_reversed, on_same_point, on_or_not}
-use Rattle.plane.specs.Point.{IsPoint, IsSame, Point, Triple, whole}
-use Rattle.plane.specs.Segment.{On}
-use Rattle.plane.specs.Turn.{IsLeft, IsRight}
+use Rattle.plane.specs.Prelude.{IsLeft, IsPoint, IsRight, IsSame, On, Point, Triple, whole}
 use Rattle.rings.proofs.Crossings.{winding_law}
 use Rattle.rings.proofs.Inside.{on_some_swapped, winding_swapped}
 use Rattle.rings.proofs.Vertices.{HasPoint, closed_edges_of, on_some_cases, on_some_left, on_some_right, on_some_same, FirstHit}
 use Rattle.rings.proofs.Vertices.{first_hit_or_misses, first_on_along, last_on_along, has_left, has_right, edge_with}
 use Rattle.rings.specs.Apart.{IsApartRing, MeetAtEnds}
-use Rattle.rings.specs.Edge.{Edge, IsOnSome, edge, edges_along, edges_of, HasEdge}
-use Rattle.rings.specs.Inside.{winding}
+use Rattle.rings.specs.Prelude.{Edge, edge, edges_along, edges_of, HasEdge, IsOnSome, winding}
 use Rattle.rings.specs.Winding.{RunsCounterclockwise, WindsUpTo}
 use Rattle.ring_laws.proofs.Ears.{IsZeroOrOne, not_zero_and_one, one_and_two, sum_value}
 use Rattle.ring_laws.proofs.Pieces.BesideChains.{both_chains, both_closed, off_ring, pieces_winding, winding_on_diagonal}

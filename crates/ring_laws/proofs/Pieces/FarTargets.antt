@@ -8,13 +8,10 @@ use Rattle.integer_algebra.proofs.Signs.{factor_zero, mul_order}
 use Rattle.plane.proofs.Points.{whole_is_point}
 use Rattle.plane.proofs.Segments.{on_is_straight, first_end_by, on_or_not}
 use Rattle.plane.proofs.Turns.{combination_of, written_determinant}
-use Rattle.plane.specs.Point.{IsPoint, IsSame, Point, Triple, whole}
-use Rattle.plane.specs.Segment.{On}
-use Rattle.plane.specs.Turn.{determinant}
+use Rattle.plane.specs.Prelude.{determinant, IsPoint, IsSame, On, Point, Triple, whole}
 use Rattle.rings.proofs.Inside.{below_abs, none_crossed_above}
 use Rattle.rings.proofs.Vertices.{AllEnds}
-use Rattle.rings.specs.Edge.{Edge}
-use Rattle.rings.specs.Inside.{winding}
+use Rattle.rings.specs.Prelude.{Edge, winding}
 
 -- ---- heights
 

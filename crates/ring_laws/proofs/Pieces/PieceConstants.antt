@@ -6,8 +6,7 @@ use Rattle.plane.specs.Point.{IsPoint, Point, Triple, whole}
 use Rattle.rings.proofs.Crossings.{winding_law}
 use Rattle.rings.proofs.Vertices.{HasPoint, closed_edges_of, on_some_same, on_some_of, first_on_along, last_on_along}
 use Rattle.rings.specs.Across.{Misses}
-use Rattle.rings.specs.Edge.{Edge, HasEdge, IsOn, IsOnSome, edge, edges_along, edges_of}
-use Rattle.rings.specs.Inside.{winding}
+use Rattle.rings.specs.Prelude.{Edge, edge, edges_along, edges_of, HasEdge, IsOn, IsOnSome, winding}
 use Rattle.ring_laws.proofs.Pieces.TwoChains.{ArePieces, IsNeither, chain_on_piece, not_between}
 
 module _ (v z : Point) (ms ns : List Point) (c : ArePieces v z ms ns) where

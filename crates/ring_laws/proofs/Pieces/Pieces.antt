@@ -8,9 +8,7 @@ use Rattle.rings.proofs.Turned.{swept-append}
 use Rattle.rings.proofs.Vertices.{apart_among, apart_more, meet_reversed, AreDistinct, distinct_left, distinct_right, distinct_vertices}
 use Rattle.rings.proofs.Vertices.{vertices_differ, has_cases, has_left, has_right, has_swapped, edge_with, on_some_of, edges_along_append}
 use Rattle.rings.specs.Apart.{IsApartRing, MeetAtEnds}
-use Rattle.rings.specs.Edge.{Edge, HasEdge, IsOnSome, edges_along, edges_of}
-use Rattle.rings.specs.Inside.{winding}
-use Rattle.rings.specs.Orientation.{doubled_area, swept}
+use Rattle.rings.specs.Prelude.{doubled_area, Edge, edges_along, edges_of, HasEdge, IsOnSome, swept, winding}
 
 -- ---- edges that are apart
 

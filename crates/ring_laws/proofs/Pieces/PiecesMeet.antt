@@ -7,7 +7,7 @@ use Rattle.rings.proofs.Inside.{apart_rotated, has_edge_rotated}
 use Rattle.rings.proofs.Vertices.{meet_reversed, HasPoint, distinct_between, edge_from, ends_along, has_cases, has_left, has_right, edge_with}
 use Rattle.rings.proofs.Vertices.{on_some_of}
 use Rattle.rings.specs.Apart.{IsApartRing, IsCommonEnd, MeetAtEnds}
-use Rattle.rings.specs.Edge.{Edge, HasEdge, HasEnd, IsOn, IsOnSome, edge, edges_along, edges_of}
+use Rattle.rings.specs.Edge.{Edge, edge, edges_along, edges_of, HasEdge, HasEnd, IsOn, IsOnSome}
 use Rattle.ring_laws.proofs.Pieces.Pieces.{distinct_cut, distinct_second, edges_of_cut, has_edge_of_first}
 
 -- an end of an edge along some points is one of them or the last one

@@ -3,11 +3,10 @@
 use Rattle.std.proofs.Common.{◌≡◌, ◌⊎◌, inl, inr, ◌∷◌, sym, subst, List, pos}
 use Rattle.plane.proofs.Points.{same_whole, whole_is_point}
 use Rattle.plane.proofs.Segments.{on_reversed, on_same_point, on_antisym, on_total, on_nested}
-use Rattle.plane.specs.Point.{IsPoint, IsSame, Point, Triple, whole}
-use Rattle.plane.specs.Segment.{On}
+use Rattle.plane.specs.Prelude.{IsPoint, IsSame, On, Point, Triple, whole}
 use Rattle.rings.proofs.Vertices.{end_of_second, meet_reversed, HasPoint, edge_with}
 use Rattle.rings.specs.Apart.{MeetAtEnds}
-use Rattle.rings.specs.Edge.{Edge, HasEdge, HasEnd, IsOn, IsOnSome, edge, edges_along, edges_of}
+use Rattle.rings.specs.Edge.{Edge, edge, edges_along, edges_of, HasEdge, HasEnd, IsOn, IsOnSome}
 use Rattle.rings.specs.Winding.{WindsUpTo}
 
 -- the diagonal goes from v to z, the first chain along ms back from z to v, and the second along ns from v to z: the pieces

@@ -7,15 +7,12 @@ use Rattle.plane.proofs.Points.{whole_is_point}
 use Rattle.plane.proofs.Segments.{on_first_end, on_last_end, on_reversed, on_antisym, on_nested, middle, middle_first, middle_is_point}
 use Rattle.plane.proofs.Segments.{middle_last, middle_on, left_not_on, same_straight, stays_left}
 use Rattle.plane.proofs.Turns.{determinant_same_ends, determinant_same_last, determinant_swap_first}
-use Rattle.plane.specs.Point.{IsPoint, IsSame, Point, Triple, whole}
-use Rattle.plane.specs.Segment.{On}
-use Rattle.plane.specs.Turn.{IsLeft, IsRight, determinant}
+use Rattle.plane.specs.Prelude.{determinant, IsLeft, IsPoint, IsRight, IsSame, On, Point, Triple, whole}
 use Rattle.rings.proofs.Crossings.{winding_law, left_swapped, right_swapped}
 use Rattle.rings.proofs.Vertices.{closed_edges_of, on_some_cases, on_some_left, on_some_right, on_some_same, FirstHit, first_hit, HasPoint}
 use Rattle.rings.proofs.Vertices.{AllEnds, all_ends_map, farthest_of, has_cases, has_left, has_right, all_ends_along, member_on_along}
 use Rattle.rings.specs.Across.{Misses}
-use Rattle.rings.specs.Edge.{Edge, IsOnSome, edges_along, edges_of, IsClosed}
-use Rattle.rings.specs.Inside.{winding}
+use Rattle.rings.specs.Prelude.{Edge, edges_along, edges_of, IsClosed, IsOnSome, winding}
 use Rattle.ring_laws.proofs.Ears.{not_zero_and_one}
 use Rattle.ring_laws.proofs.Pieces.BesideChains.{beside_left_toward, both_chains}
 use Rattle.ring_laws.proofs.Pieces.PieceConstants.{chain_constant, member_neither}

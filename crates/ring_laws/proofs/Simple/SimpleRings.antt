@@ -5,15 +5,12 @@ use Rattle.std.proofs.Common.{◌-◌, ◌≤◌, ℤ, pos, negsuc, ◌≤ℤ◌
 use Rattle.std.proofs.lemmas.Int.{ints}
 use Rattle.std.proofs.lemmas.List.{append_assoc, length-append}
 use Rattle.plane.proofs.Turns.{determinant_shift, determinant_swap_first}
-use Rattle.plane.specs.Point.{Point, whole}
-use Rattle.plane.specs.Triangle.{IsInTriangle, height_over}
-use Rattle.plane.specs.Turn.{IsLeft}
+use Rattle.plane.specs.Prelude.{height_over, IsInTriangle, IsLeft, Point, whole}
 use Rattle.rings.proofs.Simple.{apart_of_simple}
 use Rattle.rings.proofs.Vertices.{HasPoint, Farthest, has_cases, has_left, has_right, farthest_or_none, distinct_between, edge_from}
 use Rattle.rings.proofs.Vertices.{end_of_ring}
 use Rattle.rings.specs.Apart.{IsApartRing, MeetAtEnds}
-use Rattle.rings.specs.Edge.{Edge, HasEdge, edge, edges_of}
-use Rattle.rings.specs.Simple.{IsSimple}
+use Rattle.rings.specs.Prelude.{Edge, edge, edges_of, HasEdge, IsSimple}
 use Rattle.rings.specs.Winding.{RunsCounterclockwise, IsLeastVertex, RunsAsItTurns, RunsClockwise, WindsUpTo}
 use Rattle.ring_laws.proofs.Ears.{is_corner, NoneBefore, LeftTurnLaw, area_corner, on_some_corner, swept_triangle, winding_corner}
 use Rattle.ring_laws.proofs.Ears.{apart_without, ear_counterclockwise, least_vertex, runs_as_it_turns, distinct_corner, has_edge_of_corner}

@@ -5,10 +5,7 @@ use Rattle.plane.specs.Point.{Point, whole}
 use Rattle.rings.proofs.Inside.{neighbours_turned_iff, reflex_turned_iff, sees_turned_iff, in_turned_iff}
 use Rattle.rings.proofs.Simple.{apart_of_simple}
 use Rattle.rings.proofs.Turned.{length-turned_round, turned_round-turned_round, doubled_area-turned_round, simple_turned}
-use Rattle.rings.specs.Bend.{IsBend}
-use Rattle.rings.specs.Chain.{IsBentChain, IsChain, IsTaut}
-use Rattle.rings.specs.Orientation.{IsClockwise, IsCounterclockwise, turned_round}
-use Rattle.rings.specs.Simple.{IsSimple}
+use Rattle.rings.specs.Prelude.{IsBend, IsBentChain, IsChain, IsClockwise, IsCounterclockwise, IsSimple, IsTaut, turned_round}
 use Rattle.ring_laws.proofs.Simple.SimpleRings.{runs_round}
 
 -- ---- the way round

@@ -15,14 +15,11 @@ use Rattle.plane.proofs.Segments.{combination_is_straight, on_first_end, on_is_s
 use Rattle.plane.proofs.Segments.{stays_right, within_from}
 use Rattle.plane.proofs.Turns.{determinant_same_ends, determinant_same_first, determinant_shift, determinant_swap_first}
 use Rattle.plane.proofs.Turns.{determinant_swap_last, determinant_along_first, written_determinant}
-use Rattle.plane.specs.Point.{IsPoint, Triple, whole, IsSame, Point}
-use Rattle.plane.specs.Segment.{On}
-use Rattle.plane.specs.Turn.{IsLeft, IsRight, determinant, IsStraight}
+use Rattle.plane.specs.Prelude.{determinant, IsLeft, IsPoint, IsRight, IsSame, IsStraight, On, Point, Triple, whole}
 use Rattle.rings.proofs.Crossings.{winding_law, winding_law_crossed, right_swapped}
 use Rattle.rings.proofs.Vertices.{misses_between, misses_eventually}
 use Rattle.rings.specs.Across.{CrossesRight, Misses}
-use Rattle.rings.specs.Edge.{Edge, IsClosed, IsOnSome, IsOn}
-use Rattle.rings.specs.Inside.{winding}
+use Rattle.rings.specs.Prelude.{Edge, IsClosed, IsOn, IsOnSome, winding}
 
 -- ---- numbers
 

@@ -7,12 +7,10 @@ use Rattle.integer_algebra.proofs.Signs.{mul_nonnegative}
 use Rattle.plane.proofs.Order.{same_coordinates}
 use Rattle.plane.proofs.Points.{whole_is_point}
 use Rattle.plane.proofs.Turns.{determinant_same_first, written_determinant}
-use Rattle.plane.specs.Point.{IsPoint, Point, Triple, whole}
-use Rattle.plane.specs.Turn.{IsRight, determinant}
+use Rattle.plane.specs.Prelude.{determinant, IsPoint, IsRight, Point, Triple, whole}
 use Rattle.rings.proofs.Inside.{extreme_point}
 use Rattle.rings.proofs.Vertices.{AllEnds, all_ends_map}
-use Rattle.rings.specs.Edge.{Edge, IsClosed, IsOnSome}
-use Rattle.rings.specs.Inside.{winding}
+use Rattle.rings.specs.Prelude.{Edge, IsClosed, IsOnSome, winding}
 use Rattle.ring_laws.proofs.Triangles.Triangles.{not_right_between}
 
 -- how far one point is to the right of another, as seen along a line

@@ -1,10 +1,8 @@
 -- A corner among edges that are apart, with a left turn: what meets the triangle there, and the farthest end in it.
 use Rattle.std.proofs.Common.{◌≡◌, ◌⊎◌, inl, inr, sym, ◌<ℤ◌, ◌≤ℤ◌, List}
-use Rattle.plane.specs.Point.{IsPoint, Point, Triple, whole}
-use Rattle.plane.specs.Triangle.{IsInTriangle, height_over}
-use Rattle.plane.specs.Turn.{IsLeft}
+use Rattle.plane.specs.Prelude.{height_over, IsInTriangle, IsLeft, IsPoint, Point, Triple, whole}
 use Rattle.rings.specs.Apart.{AreApart, IsCommonEnd, MeetAtEnds}
-use Rattle.rings.specs.Edge.{Edge, HasEdge, HasEnd, IsOn, edge}
+use Rattle.rings.specs.Edge.{Edge, edge, HasEdge, HasEnd, IsOn}
 use Rattle.ring_laws.proofs.Triangles.NoneEnters.{base_is_diagonal, none_enters}
 use Rattle.ring_laws.proofs.Triangles.FarthestVertex.{below_middle, farthest_is_diagonal, first_piece_turns, none_higher_beside, second_piece_turns}
 

@@ -9,9 +9,7 @@ use Rattle.plane.proofs.Points.{same_whole, whole_is_point}
 use Rattle.plane.proofs.Segments.{combination_is_straight, on_last_end, on_same_point, same_without_first, same_without_last}
 use Rattle.plane.proofs.Turns.{areas_add, determinant_same_ends, determinant_same_last, determinant_shift, determinant_swap_first, IsCombination}
 use Rattle.plane.proofs.Turns.{combination_of_ends, determinant_along}
-use Rattle.plane.specs.Point.{IsPoint, IsSame, Point, Triple, whole}
-use Rattle.plane.specs.Triangle.{IsInTriangle, height_over}
-use Rattle.plane.specs.Turn.{IsLeft}
+use Rattle.plane.specs.Prelude.{height_over, IsInTriangle, IsLeft, IsPoint, IsSame, Point, Triple, whole}
 use Rattle.rings.specs.Apart.{AreApart, IsCommonEnd, MeetAtEnds}
 use Rattle.rings.specs.Edge.{Edge, HasEdge, HasEnd, IsOn}
 use Rattle.ring_laws.proofs.Triangles.SidesAtVertex.{end_is_on, at_first, at_last, at_middle, end_of_other, way_out}

@@ -5,14 +5,13 @@ use Rattle.std.proofs.lemmas.List.{map-append}
 use Rattle.plane.proofs.Nearness.{toward, toward_differs, toward_is_point, toward_on}
 use Rattle.plane.proofs.Points.{same_sym, same_trans, same_whole, whole_is_point}
 use Rattle.plane.proofs.Segments.{on_first_end, on_last_end, on_reversed, on_same_point, on_antisym, on_nested}
-use Rattle.plane.specs.Point.{IsPoint, IsSame, Point, Triple, whole}
-use Rattle.plane.specs.Segment.{On}
+use Rattle.plane.specs.Prelude.{IsPoint, IsSame, On, Point, Triple, whole}
 use Rattle.rings.proofs.Simple.{same_or_not}
 use Rattle.rings.proofs.Vertices.{end_of_first, AreDistinct, HasPoint, distinct_between, distinct_right, distinct_vertices, has_cases, has_left}
 use Rattle.rings.proofs.Vertices.{has_right, edge_with, shrink}
 use Rattle.rings.specs.Across.{Misses}
 use Rattle.rings.specs.Apart.{IsApartRing}
-use Rattle.rings.specs.Edge.{Edge, HasEdge, IsOn, IsOnSome, edges_along, edges_of}
+use Rattle.rings.specs.Edge.{Edge, edges_along, edges_of, HasEdge, IsOn, IsOnSome}
 
 -- ---- each edge stands once in a ring
 

@@ -12,10 +12,7 @@ use Rattle.plane.proofs.Points.{whole_is_point}
 use Rattle.plane.proofs.Segments.{combination_is_straight, on_reversed, same_without_last}
 use Rattle.plane.proofs.Turns.{combination_of, combination_of_ends, determinant_along, determinant_same_ends, determinant_same_last}
 use Rattle.plane.proofs.Turns.{determinant_shift, weights_positive}
-use Rattle.plane.specs.Point.{IsPoint, IsSame, Point, Triple, whole}
-use Rattle.plane.specs.Segment.{On}
-use Rattle.plane.specs.Triangle.{IsInTriangle, height_over}
-use Rattle.plane.specs.Turn.{IsLeft, IsStraight, determinant}
+use Rattle.plane.specs.Prelude.{determinant, height_over, IsInTriangle, IsLeft, IsPoint, IsSame, IsStraight, On, Point, Triple, whole}
 use Rattle.rings.specs.Apart.{AreApart, IsCommonEnd, MeetAtEnds}
 use Rattle.rings.specs.Edge.{Edge, HasEdge, HasEnd, IsOn}
 use Rattle.ring_laws.proofs.Triangles.SidesAtVertex.{at_first, at_last, at_middle, meets_first, meets_second, way_out}

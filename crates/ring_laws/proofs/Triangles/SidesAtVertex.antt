@@ -9,10 +9,8 @@ use Rattle.plane.proofs.Meetings.{no_value, zero_combination, zero_point}
 use Rattle.plane.proofs.Points.{same_whole, whole_is_point}
 use Rattle.plane.proofs.Segments.{on_first_end, on_last_end, on_nested}
 use Rattle.plane.proofs.Turns.{determinant_along, on_of_combination, determinant_same}
-use Rattle.plane.specs.Point.{IsPoint, Point, Triple, whole, IsSame}
-use Rattle.plane.specs.Segment.{On}
-use Rattle.plane.specs.Triangle.{IsInTriangle, height_over}
-use Rattle.plane.specs.Turn.{IsRight, IsStraight, determinant, IsLeft}
+use Rattle.plane.specs.Prelude.{determinant, height_over, IsInTriangle, IsLeft, IsPoint, IsRight, IsSame, IsStraight, On, Point, Triple}
+use Rattle.plane.specs.Prelude.{whole}
 use Rattle.rings.specs.Apart.{AreApart}
 use Rattle.rings.specs.Edge.{Edge, HasEdge, HasEnd, IsOn}
 use Rattle.ring_laws.proofs.Triangles.Triangles.{in_triangle, not_right_between, height_of_first, height_of_last, on_first_side}

@@ -2,10 +2,7 @@
 use Rattle.std.proofs.Common.{inl, inr, pos, ◌≤ℤ◌}
 use Rattle.integer_algebra.proofs.SignSteps.{weak, zero_not_negative}
 use Rattle.integer_algebra.proofs.Signs.{is_negative, is_positive, is_zero, lt_or_le, sign}
-use Rattle.plane.specs.Point.{IsPoint, Point, Triple, whole}
-use Rattle.plane.specs.Segment.{On}
-use Rattle.plane.specs.Triangle.{IsInTriangle}
-use Rattle.plane.specs.Turn.{IsLeft, IsRight, determinant}
+use Rattle.plane.specs.Prelude.{determinant, IsInTriangle, IsLeft, IsPoint, IsRight, On, Point, Triple, whole}
 use Rattle.ring_laws.proofs.Triangles.Triangles.{in_or_not, in_triangle, on_first_side, on_second_side, on_third_side}
 
 -- left of all three sides

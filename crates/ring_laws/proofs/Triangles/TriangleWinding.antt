@@ -7,14 +7,11 @@ use Rattle.integer_algebra.proofs.SignSteps.{not_both, positive_not_zero, weak, 
 use Rattle.integer_algebra.proofs.Signs.{factor_zero, lt_or_le, mul_nonpositive, mul_positive}
 use Rattle.plane.proofs.Order.{by_rises, rise}
 use Rattle.plane.proofs.Turns.{determinant_same_ends, determinant_same_last, parts, determinant as det}
-use Rattle.plane.specs.Point.{IsPoint, Point, Triple, whole}
-use Rattle.plane.specs.Triangle.{IsInTriangle}
-use Rattle.plane.specs.Turn.{IsLeft, determinant}
+use Rattle.plane.specs.Prelude.{determinant, IsInTriangle, IsLeft, IsPoint, Point, Triple, whole}
 use Rattle.rings.proofs.Crossings.{CrossingCase, crossing_cases, downward, uncrossed, upward}
 use Rattle.rings.proofs.Inside.{in_from_odd, not_in_from_even}
 use Rattle.rings.proofs.Vertices.{AllEnds, closed_edges_of}
-use Rattle.rings.specs.Edge.{Edge, IsClosed, IsOnSome, edges_of}
-use Rattle.rings.specs.Inside.{crossing, winding, IsIn}
+use Rattle.rings.specs.Prelude.{crossing, Edge, edges_of, IsClosed, IsIn, IsOnSome, winding}
 use Rattle.ring_laws.proofs.Triangles.BeyondLine.{not_right_on, right_of_all}
 use Rattle.ring_laws.proofs.Triangles.TrianglePlaces.{IsBeyond, IsInside, Place, inside, on_border, on_first, on_second, on_third, outside}
 use Rattle.ring_laws.proofs.Triangles.TrianglePlaces.{place_of, right_of_first, right_of_second, right_of_third, IsOnSide, outside_not_in}

@@ -8,10 +8,7 @@ use Rattle.plane.proofs.Points.{whole_is_point}
 use Rattle.plane.proofs.Turns.{determinant_same_ends, determinant_same_last, determinant_shift, determinant_shift_back, determinant_swap_first}
 use Rattle.plane.proofs.Turns.{four_triples_in_W, four_triples_in_X, four_triples_in_Y, IsCombination, combination_of, determinant_along}
 use Rattle.plane.proofs.Turns.{on_of_combination}
-use Rattle.plane.specs.Point.{IsPoint, Point, Triple, whole}
-use Rattle.plane.specs.Segment.{On}
-use Rattle.plane.specs.Triangle.{IsInTriangle, height_over}
-use Rattle.plane.specs.Turn.{IsLeft, IsStraight, determinant}
+use Rattle.plane.specs.Prelude.{determinant, height_over, IsInTriangle, IsLeft, IsPoint, IsStraight, On, Point, Triple, whole}
 
 -- ---- numbers
 

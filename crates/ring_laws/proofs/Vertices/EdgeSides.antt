@@ -6,16 +6,14 @@ use Rattle.plane.proofs.Nearness.{toward, toward_differs, toward_is_point, towar
 use Rattle.plane.proofs.Points.{whole_is_point}
 use Rattle.plane.proofs.Segments.{left_not_on, middle, middle_first, middle_is_point, middle_last, middle_on, on_antisym, on_first_end, on_last_end}
 use Rattle.plane.proofs.Segments.{on_nested, on_reversed, on_same_point, right_not_on, within_from}
-use Rattle.plane.specs.Point.{IsPoint, IsSame, Point, Triple, whole}
-use Rattle.plane.specs.Turn.{IsLeft, IsRight}
+use Rattle.plane.specs.Prelude.{IsLeft, IsPoint, IsRight, IsSame, Point, Triple, whole}
 use Rattle.rings.proofs.Crossings.{winding-append}
 use Rattle.rings.proofs.Inside.{in_from_odd, not_in_from_even}
 use Rattle.rings.proofs.Simple.{proper_edges}
 use Rattle.rings.proofs.Vertices.{closed_edges_of, growth-append, has_cases, has_left, has_right, on_none_with}
 use Rattle.rings.specs.Across.{Misses}
 use Rattle.rings.specs.Apart.{IsApartRing}
-use Rattle.rings.specs.Edge.{Edge, HasEdge, IsClosed, IsOn, IsOnSome, edges_of}
-use Rattle.rings.specs.Inside.{IsIn, winding}
+use Rattle.rings.specs.Prelude.{Edge, edges_of, HasEdge, IsClosed, IsIn, IsOn, IsOnSome, winding}
 use Rattle.rings.specs.Winding.{WindsUpTo}
 use Rattle.ring_laws.proofs.Ears.{greater_is_one, smaller_is_zero}
 use Rattle.ring_laws.proofs.Triangles.{across_edge, BesideEdge, beside_edge, off_others, other_edges}

@@ -7,8 +7,7 @@ use Rattle.plane.proofs.CornerLists.{IsNext, not_second_next}
 use Rattle.plane.specs.Point.{Point}
 use Rattle.rings.proofs.Vertices.{edge_at, edge_number, has_edge_at, vertex_round, one_to_one}
 use Rattle.rings.specs.Apart.{IsApartRing}
-use Rattle.rings.specs.Edge.{Edge, HasEdge, HasEnd, edge, edges_of}
-use Rattle.rings.specs.Ring.{origin, vertex}
+use Rattle.rings.specs.Prelude.{Edge, edge, edges_of, HasEdge, HasEnd, origin, vertex}
 
 -- ---- numbers
 

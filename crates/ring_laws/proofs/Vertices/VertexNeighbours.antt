@@ -2,15 +2,11 @@
 use Rattle.std.proofs.Common.{◌≡◌, ◌⊎◌, inl, inr, refl, sym, subst, ap, ◌∙◌, Bool, true, false, ℕ, ◌+◌, ◌-◌, ◌<◌, ◌≤◌, List, length, arith}
 use Rattle.plane.proofs.Points.{same_whole, whole_is_point}
 use Rattle.plane.proofs.Segments.{on_first_end, on_last_end, on_reversed}
-use Rattle.plane.specs.Point.{Point, Triple, whole}
-use Rattle.plane.specs.Segment.{On}
+use Rattle.plane.specs.Prelude.{On, Point, Triple, whole}
 use Rattle.rings.proofs.Simple.{apart_of_simple, proper_edges}
 use Rattle.rings.proofs.Vertices.{edge_at, edge_number, has_edge_at}
 use Rattle.rings.specs.Apart.{IsApartRing}
-use Rattle.rings.specs.Bend.{AreNeighbours}
-use Rattle.rings.specs.Edge.{Edge, HasEdge, HasEnd, IsOn, edge, edges_of}
-use Rattle.rings.specs.Ring.{vertex}
-use Rattle.rings.specs.Simple.{IsSimple}
+use Rattle.rings.specs.Prelude.{AreNeighbours, Edge, edge, edges_of, HasEdge, HasEnd, IsOn, IsSimple, vertex}
 use Rattle.ring_laws.proofs.Vertices.VertexEdges.{edges_at}
 
 -- ---- neighbours

@@ -9,8 +9,7 @@ use Rattle.rings.proofs.Crossings.EdgeLaw.{edge_law, edge_law_left, edge_law_rig
 use Rattle.rings.proofs.Crossings.Parity.{same_parity}
 use Rattle.rings.proofs.Vertices.{closed_edges_of, growth-append}
 use Rattle.rings.specs.Across.{CrossesRight, Misses}
-use Rattle.rings.specs.Edge.{Edge, IsClosed, edges_of, growth}
-use Rattle.rings.specs.Inside.{IsIn, crossing, winding}
+use Rattle.rings.specs.Prelude.{crossing, Edge, edges_of, growth, IsClosed, IsIn, winding}
 
 -- a segment has two directions
 pub misses_swapped : (p q : Triple) (es : List Edge) → Misses p q es → Misses q p es

@@ -7,11 +7,9 @@ use Rattle.std.specs.Int.Signed.{le_z, lt_z}
 use Rattle.std.specs.Prelude.{◌&&◌, ◌||◌, if◌then◌else◌, cond}
 use Rattle.integer_algebra.proofs.SignSteps.{opposite_sum}
 use Rattle.plane.proofs.Turns.{determinant_swap_first}
-use Rattle.plane.specs.Point.{Triple, whole}
-use Rattle.plane.specs.Turn.{IsLeft, IsRight, determinant}
+use Rattle.plane.specs.Prelude.{determinant, IsLeft, IsRight, Triple, whole}
 use Rattle.rings.proofs.Vertices.{reversed, backward, sum_regrouped}
-use Rattle.rings.specs.Edge.{Edge}
-use Rattle.rings.specs.Inside.{crossing, is_crossed, is_crossed_down, is_crossed_up, crossings, winding}
+use Rattle.rings.specs.Prelude.{crossing, crossings, Edge, is_crossed, is_crossed_down, is_crossed_up, winding}
 
 -- the ray from p crosses the edge upward
 pub record CrossedUp (e : Edge) (p : Triple) : Type 0 where

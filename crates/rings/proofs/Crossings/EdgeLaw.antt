@@ -12,9 +12,7 @@ use Rattle.plane.proofs.Meetings.{crossing_or_line}
 use Rattle.plane.proofs.Order.{by_rises, rise, written_rise, rises}
 use Rattle.plane.proofs.Points.{whole_is_point}
 use Rattle.plane.proofs.Turns.{parts, straight_shift, determinant as det, determinant_swap_first}
-use Rattle.plane.specs.Point.{IsPoint, Triple, whole, Point}
-use Rattle.plane.specs.Segment.{Meet}
-use Rattle.plane.specs.Turn.{determinant, IsLeft, IsRight}
+use Rattle.plane.specs.Prelude.{determinant, IsLeft, IsPoint, IsRight, Meet, Point, Triple, whole}
 use Rattle.rings.proofs.Crossings.Crossings.{crossing_reversed}
 use Rattle.rings.proofs.Crossings.EdgeCases.{Level, between, high, low, differ_apart}
 use Rattle.rings.proofs.Crossings.EdgeCrossed.{differ_crossed}
@@ -22,8 +20,7 @@ use Rattle.rings.proofs.Crossings.EdgeSigns.{Apart, Relations, ahead, behind, en
 use Rattle.rings.proofs.Crossings.SignedCrossing.{signed, signed_is, counted}
 use Rattle.rings.proofs.Vertices.{reversed}
 use Rattle.rings.specs.Across.{CrossesRight}
-use Rattle.rings.specs.Edge.{Edge}
-use Rattle.rings.specs.Inside.{crossing}
+use Rattle.rings.specs.Prelude.{crossing, Edge}
 
 -- ---- the figure in numbers
 

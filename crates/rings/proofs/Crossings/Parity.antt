@@ -4,8 +4,7 @@ use Rattle.std.proofs.lemmas.Int.{ints}
 use Rattle.std.specs.Prelude.{cond}
 use Rattle.plane.specs.Point.{Triple}
 use Rattle.rings.proofs.Crossings.Crossings.{crossings-cons, CrossingCase, crossing_cases, downward, uncrossed, upward}
-use Rattle.rings.specs.Edge.{Edge}
-use Rattle.rings.specs.Inside.{crossings, is_crossed, winding}
+use Rattle.rings.specs.Prelude.{crossings, Edge, is_crossed, winding}
 
 -- the number of crossed edges is the winding number and twice some number: that of the edges crossed downward
 record SameParity (w : ℤ) (n : ℕ) : Type 0 where

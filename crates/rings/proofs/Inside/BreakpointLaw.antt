@@ -11,18 +11,13 @@ use Rattle.plane.proofs.Segments.{on_first_end, on_or_not, on_from_order, on_not
 use Rattle.plane.proofs.Segments.{combination_of_same, on_nested}
 use Rattle.plane.proofs.Turns.{combination_of}
 use Rattle.plane.specs.Line.{mediant}
-use Rattle.plane.specs.Order.{Precedes}
-use Rattle.plane.specs.Point.{IsPoint, IsSame, Point, Triple, whole}
-use Rattle.plane.specs.Segment.{On}
+use Rattle.plane.specs.Prelude.{IsPoint, IsSame, On, Point, Precedes, Triple, whole}
 use Rattle.rings.proofs.Crossings.{crossings_even, crossings_odd, in_law}
 use Rattle.rings.proofs.Inside.Breakpoints.{AreBreakpoints, by_number, gap_of}
 use Rattle.rings.proofs.Inside.SamePoint.{crossings_same}
 use Rattle.rings.proofs.Vertices.{on_some_from, on_some_same, on_some_edge}
 use Rattle.rings.specs.Across.{Misses}
-use Rattle.rings.specs.Edge.{Edge, IsOnSome, edges_of}
-use Rattle.rings.specs.Inside.{IsIn, crossings, winding}
-use Rattle.rings.specs.Ring.{vertex, IsOnEdge}
-use Rattle.rings.specs.Sees.{Sees}
+use Rattle.rings.specs.Prelude.{crossings, Edge, edges_of, IsIn, IsOnEdge, IsOnSome, Sees, vertex, winding}
 
 -- ---- one point or another
 

@@ -3,8 +3,7 @@ use Rattle.std.proofs.Common.{◌≡◌, inl, inr, subst, ℕ, zero, suc, ◌+�
 use Rattle.plane.proofs.Order.{NotAfter, not_after_of_precedes, not_after_of_same, not_after_or_precedes, not_after_trans}
 use Rattle.plane.proofs.Points.{same_refl, same_sym}
 use Rattle.plane.proofs.Segments.{on_not_after, on_not_before}
-use Rattle.plane.specs.Point.{IsPoint, IsSame, Point, Triple}
-use Rattle.plane.specs.Segment.{On}
+use Rattle.plane.specs.Prelude.{IsPoint, IsSame, On, Point, Triple}
 use Rattle.rings.specs.Ring.{IsOnEdge}
 
 -- z is between two of the points, and both are on edge i

@@ -13,13 +13,12 @@ use Rattle.plane.proofs.Order.{rise}
 use Rattle.plane.proofs.Points.{whole_is_point}
 use Rattle.plane.proofs.Segments.{first_end_by, not_positive_between}
 use Rattle.plane.proofs.Turns.{linear, combination_of}
-use Rattle.plane.specs.Point.{Point, Triple, IsPoint, whole}
+use Rattle.plane.specs.Point.{IsPoint, Point, Triple, whole}
 use Rattle.rings.proofs.Crossings.{crossings-cons, CrossedDown, CrossedUp, CrossingCase, crossing_cases, downward, uncrossed, upward}
 use Rattle.rings.proofs.Crossings.{winding_law}
 use Rattle.rings.proofs.Vertices.{AllEnds, all_ends_map, on_some_same}
 use Rattle.rings.specs.Across.{Misses}
-use Rattle.rings.specs.Edge.{Edge, IsClosed, IsOnSome}
-use Rattle.rings.specs.Inside.{crossings, winding}
+use Rattle.rings.specs.Prelude.{crossings, Edge, IsClosed, IsOnSome, winding}
 
 -- ---- a segment along which a linear functional rises misses edges at whose ends it is not positive
 

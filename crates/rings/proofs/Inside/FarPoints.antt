@@ -11,14 +11,12 @@ use Rattle.plane.proofs.Order.{rise, run}
 use Rattle.plane.proofs.Points.{same_sym, whole_is_point}
 use Rattle.plane.proofs.Segments.{not_positive_between, on_first_end, on_same_point}
 use Rattle.plane.proofs.Turns.{on_of_combination}
-use Rattle.plane.specs.Point.{IsPoint, IsSame, Point, Triple, whole}
-use Rattle.plane.specs.Segment.{On}
+use Rattle.plane.specs.Prelude.{IsPoint, IsSame, On, Point, Triple, whole}
 use Rattle.rings.proofs.Inside.ExtremePoints.{below_abs, extreme_point, how_far}
 use Rattle.rings.proofs.Inside.BreakpointLaw.{not_in_from_even}
 use Rattle.rings.proofs.Simple.{same_or_not}
 use Rattle.rings.proofs.Vertices.{AllEnds, all_ends_map, closed_edges_of}
-use Rattle.rings.specs.Edge.{Edge, IsOnSome, edges_of}
-use Rattle.rings.specs.Inside.{IsIn}
+use Rattle.rings.specs.Prelude.{Edge, edges_of, IsIn, IsOnSome}
 
 -- ---- beyond all vertices
 

@@ -8,9 +8,7 @@ use Rattle.rings.proofs.Simple.{apart_of_simple, simple_of_apart}
 use Rattle.rings.proofs.Turned.{edges_of-turned_round, simple_turned}
 use Rattle.rings.proofs.Vertices.{backward, reverse-cons}
 use Rattle.rings.specs.Apart.{IsApartRing}
-use Rattle.rings.specs.Edge.{Edge, edges_of}
-use Rattle.rings.specs.Inside.{winding}
-use Rattle.rings.specs.Orientation.{turned_round}
+use Rattle.rings.specs.Prelude.{Edge, edges_of, turned_round, winding}
 
 -- a ring is apart also the other way round
 pub apart_turned : (ring : List Point) → IsApartRing ring → IsApartRing (turned_round ring)

@@ -4,16 +4,13 @@ use Rattle.std.proofs.Math.Nat.{add-mod_left}
 use Rattle.std.proofs.lemmas.Bool.{cases_lt}
 use Rattle.std.proofs.lemmas.Int.{ints}
 use Rattle.std.proofs.lemmas.List.{append-nil, get_or-append-add, get_or-append_right, get_or_append_left, length-append}
-use Rattle.plane.specs.Point.{Point, Triple, whole}
-use Rattle.plane.specs.Turn.{determinant}
+use Rattle.plane.specs.Prelude.{determinant, Point, Triple, whole}
 use Rattle.rings.proofs.Crossings.{crossings-append, winding-append}
 use Rattle.rings.proofs.Turned.{swept-append}
 use Rattle.rings.proofs.Vertices.{distinct_swapped, distinct_vertices, vertices_differ, growth-append, has_swapped, on_some_among, vertex_in_range, edges_along_append}
 use Rattle.rings.specs.Apart.{IsApartRing}
-use Rattle.rings.specs.Edge.{Edge, HasEdge, IsClosed, IsOnSome, edges_along, edges_of}
-use Rattle.rings.specs.Inside.{IsIn, crossings, winding}
-use Rattle.rings.specs.Orientation.{doubled_area, swept, turn_at}
-use Rattle.rings.specs.Ring.{origin, vertex}
+use Rattle.rings.specs.Prelude.{crossings, doubled_area, Edge, edges_along, edges_of, HasEdge, IsClosed, IsIn, IsOnSome, origin, swept}
+use Rattle.rings.specs.Prelude.{turn_at, vertex, winding}
 
 -- ---- two lists of edges in both orders
 

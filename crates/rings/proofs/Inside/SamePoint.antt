@@ -9,8 +9,7 @@ use Rattle.plane.proofs.Points.{same_sym}
 use Rattle.plane.proofs.Turns.{determinant_same}
 use Rattle.plane.specs.Point.{IsPoint, IsSame, Triple, whole}
 use Rattle.rings.proofs.Crossings.{crossed_down_facts, crossed_down_from, crossed_up_facts, crossed_up_from}
-use Rattle.rings.specs.Edge.{Edge}
-use Rattle.rings.specs.Inside.{crossings, is_crossed, is_crossed_down, is_crossed_up}
+use Rattle.rings.specs.Prelude.{crossings, Edge, is_crossed, is_crossed_down, is_crossed_up}
 
 -- ---- heights
 

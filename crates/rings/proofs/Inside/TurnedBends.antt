@@ -5,18 +5,13 @@ use Rattle.std.proofs.Math.Nat.{add-mod_right}
 use Rattle.std.proofs.lemmas.Int.{ints}
 use Rattle.std.specs.Prelude.{slice_index_or}
 use Rattle.plane.proofs.Turns.{determinant_swap_ends}
-use Rattle.plane.specs.Point.{Point, Triple, whole}
-use Rattle.plane.specs.Turn.{determinant}
+use Rattle.plane.specs.Prelude.{determinant, Point, Triple, whole}
 use Rattle.rings.proofs.Crossings.{crossings-append, crossings-backward, crossings-cons}
 use Rattle.rings.proofs.Turned.{length-turned_round, turned_from, turned_round-turned_round, turned_to, vertex-turned_round}
 use Rattle.rings.proofs.Turned.{vertex-turned_round-zero, doubled_area-turned_round, edges_of-turned_round}
 use Rattle.rings.proofs.Vertices.{backward, on_some_backward, on_some_left, on_some_right, reverse-cons}
-use Rattle.rings.specs.Bend.{AreNeighbours, IsReflexVertex}
-use Rattle.rings.specs.Edge.{Edge, IsOnSome, edges_of}
-use Rattle.rings.specs.Inside.{IsIn, crossings}
-use Rattle.rings.specs.Orientation.{IsReflex, turn_at, turned_round}
-use Rattle.rings.specs.Ring.{origin, vertex}
-use Rattle.rings.specs.Sees.{Sees}
+use Rattle.rings.specs.Prelude.{AreNeighbours, crossings, Edge, edges_of, IsIn, IsOnSome, IsReflex, IsReflexVertex, origin, Sees, turn_at}
+use Rattle.rings.specs.Prelude.{turned_round, vertex}
 
 -- ---- the inside of a ring is that of the ring read the other way round
 

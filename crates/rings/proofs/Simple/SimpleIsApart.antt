@@ -7,9 +7,7 @@ use Rattle.plane.proofs.Segments.{on_first_end}
 use Rattle.plane.specs.Point.{IsSame, Point, Triple, whole}
 use Rattle.rings.proofs.Vertices.{meet_swapped, edge_at, edge_number, has_edge_at, vertex_after_last}
 use Rattle.rings.specs.Apart.{IsApartRing, IsCommonEnd, MeetAtEnds}
-use Rattle.rings.specs.Edge.{Edge, HasEdge, HasEnd, edges_of}
-use Rattle.rings.specs.Ring.{IsOnEdge, vertex}
-use Rattle.rings.specs.Simple.{IsSimple}
+use Rattle.rings.specs.Prelude.{Edge, edges_of, HasEdge, HasEnd, IsOnEdge, IsSimple, vertex}
 
 -- ---- decisions
 

@@ -5,9 +5,7 @@ use Rattle.plane.proofs.Order.{NotAfter, not_after_antisym, not_after_facts, not
 use Rattle.plane.proofs.Order.{not_after_trans}
 use Rattle.plane.proofs.Points.{same_refl, same_sym, same_trans, same_whole, whole_is_point}
 use Rattle.plane.proofs.Segments.{on_not_after, on_not_before}
-use Rattle.plane.specs.Order.{IsBefore, Precedes}
-use Rattle.plane.specs.Point.{IsPoint, IsSame, Point, Triple, whole}
-use Rattle.plane.specs.Segment.{On}
+use Rattle.plane.specs.Prelude.{IsBefore, IsPoint, IsSame, On, Point, Precedes, Triple, whole}
 
 -- a whole point before another precedes it
 pub precedes_whole : (p q : Point) → IsBefore p q → Precedes (whole p) (whole q)

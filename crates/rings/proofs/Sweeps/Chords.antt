@@ -5,8 +5,7 @@ use Rattle.integer_algebra.proofs.Polynomial.{neg, ◌⊕◌, ◌⊗◌, zero_va
 use Rattle.integer_algebra.proofs.SignSteps.{opposite_not_negative, zero_of_opposite}
 use Rattle.plane.proofs.Order.{NotAfter, rise, run, written_rise, written_run}
 use Rattle.plane.proofs.Turns.{parts, determinant as det}
-use Rattle.plane.specs.Point.{IsSame, Triple}
-use Rattle.plane.specs.Turn.{determinant}
+use Rattle.plane.specs.Prelude.{determinant, IsSame, Triple}
 use Rattle.rings.proofs.Sweeps.ForwardSums.{Part, none_gains}
 
 -- the way from a point to one that it is not after, with a weight

@@ -2,8 +2,7 @@
 use Rattle.std.proofs.Common.{◌≡◌, ◌⊎◌, inl, inr, ap, List, ℕ, ◌<ℤ◌, arith}
 use Rattle.std.proofs.Props.{props}
 use Rattle.std.proofs.lemmas.Int.{ints}
-use Rattle.plane.specs.Order.{IsBefore}
-use Rattle.plane.specs.Point.{Point}
+use Rattle.plane.specs.Prelude.{IsBefore, Point}
 use Rattle.rings.specs.Events.{AreEvents}
 
 -- so is one of two propositions that are not both true

@@ -7,8 +7,7 @@ use Rattle.std.specs.List.{All, AllAdjacentBelow, Contains}
 use Rattle.plane.proofs.Order.{NotAfter}
 use Rattle.plane.proofs.Points.{whole_is_point}
 use Rattle.plane.proofs.Segments.{on_is_straight}
-use Rattle.plane.specs.Order.{IsBefore, Precedes}
-use Rattle.plane.specs.Point.{IsPoint, Point, Triple, whole}
+use Rattle.plane.specs.Prelude.{IsBefore, IsPoint, Point, Precedes, Triple, whole}
 use Rattle.rings.proofs.Sweeps.Ascending.{ascends, at_one_place, not_after_last, not_before_first, precedes_later, slab_between}
 use Rattle.rings.proofs.Sweeps.Stacks.{shared}
 use Rattle.rings.proofs.Sweeps.StaysBelow.{Spans, side}

@@ -7,8 +7,7 @@ use Rattle.plane.proofs.Order.{NotAfter}
 use Rattle.plane.proofs.Points.{same_sym, same_trans, same_whole, whole_is_point}
 use Rattle.plane.proofs.Segments.{same_straight}
 use Rattle.plane.proofs.Turns.{determinant_same_ends, determinant_same_last}
-use Rattle.plane.specs.Order.{Precedes}
-use Rattle.plane.specs.Point.{IsPoint, Point, Triple, whole}
+use Rattle.plane.specs.Prelude.{IsPoint, Point, Precedes, Triple, whole}
 use Rattle.rings.proofs.Sweeps.StaysBelow.{Spans, side, stays_below}
 use Rattle.rings.specs.Apart.{IsCommonEnd}
 use Rattle.rings.specs.Below.{IsBelow}

@@ -5,9 +5,7 @@ use Rattle.integer_algebra.proofs.Signs.{is_negative, is_positive, is_zero, lt_o
 use Rattle.plane.proofs.Order.{NotAfter, not_after_facts, not_after_of_precedes, not_after_of_same, not_after_trans, precedes_differs}
 use Rattle.plane.proofs.Points.{same_sym, same_trans, whole_is_point}
 use Rattle.plane.proofs.Turns.{determinant_same_ends, determinant_same_last}
-use Rattle.plane.specs.Order.{Precedes}
-use Rattle.plane.specs.Point.{IsPoint, IsSame, Point, Triple, whole}
-use Rattle.plane.specs.Turn.{determinant}
+use Rattle.plane.specs.Prelude.{determinant, IsPoint, IsSame, Point, Precedes, Triple, whole}
 use Rattle.rings.proofs.Sweeps.Chords.{IsBalanced, chord_above, chord_below}
 use Rattle.rings.specs.Apart.{IsCommonEnd}
 use Rattle.rings.specs.Below.{IsBelow, IsBelowAt}

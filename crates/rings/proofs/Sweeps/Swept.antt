@@ -6,18 +6,15 @@ use Rattle.std.specs.List.{Contains}
 use Rattle.std.specs.Prelude.{slice_index}
 use Rattle.plane.proofs.Order.{precedes_differs}
 use Rattle.plane.proofs.Points.{same_refl}
-use Rattle.plane.specs.Order.{IsBefore}
-use Rattle.plane.specs.Point.{Point, whole}
+use Rattle.plane.specs.Prelude.{IsBefore, Point, whole}
 use Rattle.rings.proofs.Simple.{simple_of_apart}
 use Rattle.rings.proofs.Sweeps.Ascending.{precedes_later}
 use Rattle.rings.proofs.Sweeps.Events.{edge_is, ends_below, event_of, forward, rank_below}
 use Rattle.rings.proofs.Sweeps.Slabs.{Runs, Slab, common_end}
 use Rattle.rings.proofs.Vertices.{meet_reversed, meet_swapped, reversed, edge_at, edge_number}
 use Rattle.rings.specs.Apart.{MeetAtEnds}
-use Rattle.rings.specs.Edge.{Edge}
+use Rattle.rings.specs.Prelude.{Edge, IsSimple, vertex}
 use Rattle.rings.specs.Events.{AreEvents, edge_upward, first_end, first_rank, last_end, last_rank}
-use Rattle.rings.specs.Ring.{vertex}
-use Rattle.rings.specs.Simple.{IsSimple}
 use Rattle.rings.specs.Status.{IsStatus, one, times}
 
 -- ---- how often an item is in a list

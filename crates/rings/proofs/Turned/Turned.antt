@@ -6,13 +6,11 @@ use Rattle.std.proofs.lemmas.Int.{ints}
 use Rattle.std.proofs.lemmas.List.{get_or-reverse, length-reverse, reverse-reverse}
 use Rattle.std.specs.Prelude.{slice_index_or}
 use Rattle.plane.proofs.Segments.{on_reversed}
-use Rattle.plane.specs.Point.{Point, IsSame, Triple, whole}
+use Rattle.plane.specs.Point.{IsSame, Point, Triple, whole}
 use Rattle.rings.proofs.Vertices.{backward, edges_along_append, reverse-cons, vertex_in_range, vertex_mod, vertex_round}
-use Rattle.rings.specs.Edge.{Edge, edges_along, edges_of}
+use Rattle.rings.specs.Prelude.{Clash, doubled_area, Edge, edges_along, edges_of, HasEqualEnds, IsOnEdge, IsSimple, origin, SharesPoint}
+use Rattle.rings.specs.Prelude.{swept, turned_round, vertex}
 use Rattle.rings.specs.Full.{IsVertexBetween}
-use Rattle.rings.specs.Orientation.{turned_round, doubled_area, swept}
-use Rattle.rings.specs.Ring.{origin, vertex, IsOnEdge}
-use Rattle.rings.specs.Simple.{Clash, HasEqualEnds, IsSimple, SharesPoint}
 
 -- ---- the list of vertices
 

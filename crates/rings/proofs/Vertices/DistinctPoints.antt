@@ -5,8 +5,7 @@ use Rattle.plane.specs.Point.{Point, whole}
 use Rattle.rings.proofs.Vertices.Edges.{AllEnds}
 use Rattle.rings.proofs.Vertices.Indexing.{vertex_in_range}
 use Rattle.rings.proofs.Vertices.Items.{has_cases, has_left, has_number, has_right, number_of}
-use Rattle.rings.specs.Edge.{Edge, Has, HasEdge, HasEnd, edges_along, edges_of, IsOnSome}
-use Rattle.rings.specs.Ring.{origin, vertex}
+use Rattle.rings.specs.Prelude.{Edge, edges_along, edges_of, Has, HasEdge, HasEnd, IsOnSome, origin, vertex}
 
 -- p is one of the points
 abbrev pub HasPoint : List Point → Point → Type 0

@@ -4,7 +4,7 @@ use Rattle.std.proofs.lemmas.Int.{ints}
 use Rattle.plane.proofs.Segments.{on_reversed, on_same_point}
 use Rattle.plane.specs.Point.{IsPoint, IsSame, Point, Triple, whole}
 use Rattle.rings.specs.Apart.{AreApart, IsCommonEnd, MeetAtEnds}
-use Rattle.rings.specs.Edge.{Edge, HasEdge, IsClosed, IsOnSome, edges_along, edges_of, growth, IsOn}
+use Rattle.rings.specs.Edge.{Edge, edges_along, edges_of, growth, HasEdge, IsClosed, IsOn, IsOnSome}
 
 -- the edge read backward
 abbrev pub reversed : Edge → Edge

@@ -3,8 +3,7 @@ use Rattle.std.proofs.Common.{◌⊎◌, inl, inr, List, [], ◌∷◌}
 use Rattle.plane.proofs.Meetings.{First, first_or_none}
 use Rattle.plane.proofs.Points.{whole_is_point}
 use Rattle.plane.proofs.Segments.{on_first_end, on_antisym, on_total, on_nested}
-use Rattle.plane.specs.Point.{IsPoint, IsSame, Triple, whole}
-use Rattle.plane.specs.Segment.{Meet, On}
+use Rattle.plane.specs.Prelude.{IsPoint, IsSame, Meet, On, Triple, whole}
 use Rattle.rings.specs.Across.{Misses}
 use Rattle.rings.specs.Edge.{Edge, IsOnSome}
 

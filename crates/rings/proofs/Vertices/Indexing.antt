@@ -5,13 +5,10 @@ use Rattle.std.proofs.Math.Nat.{mod-eq_of_lt, mod-mod, mod_self}
 use Rattle.std.proofs.lemmas.List.{take_all, take_more, get_or_default}
 use Rattle.std.proofs.lemmas.List.Sums.{sum_by_push}
 use Rattle.std.specs.Prelude.{◌↔◌, slice_index_or}
-use Rattle.plane.specs.Point.{Point, Triple, whole, IsPoint}
-use Rattle.plane.specs.Segment.{On}
+use Rattle.plane.specs.Prelude.{IsPoint, On, Point, Triple, whole}
 use Rattle.rings.proofs.Vertices.Edges.{on_some_cases, on_some_left, on_some_right, backward, reversed}
 use Rattle.rings.proofs.Vertices.Items.{next_round, has_number, number_of}
-use Rattle.rings.specs.Edge.{Edge, IsOnSome, edges_along, edges_of, HasEdge, IsOn}
-use Rattle.rings.specs.Inside.{crossings, is_crossed}
-use Rattle.rings.specs.Ring.{IsOnEdge, origin, vertex}
+use Rattle.rings.specs.Prelude.{crossings, Edge, edges_along, edges_of, HasEdge, is_crossed, IsOn, IsOnEdge, IsOnSome, origin, vertex}
 
 -- ---- the vertices of a ring by their numbers
 

@@ -2,10 +2,9 @@
 use Rattle.std.proofs.Common.{le_refl, inl, inr, refl, subst, ◌+◌, List, [], ◌∷◌, arith, ℕ}
 use Rattle.plane.proofs.Nearness.{apart_between, Eventually, apart_eventually, toward, toward_differs, toward_is_point, toward_on}
 use Rattle.plane.proofs.Points.{whole_is_point}
-use Rattle.plane.specs.Point.{IsPoint, IsSame, Triple, whole}
-use Rattle.plane.specs.Segment.{On, Meet}
+use Rattle.plane.specs.Prelude.{IsPoint, IsSame, Meet, On, Triple, whole}
 use Rattle.rings.specs.Across.{Misses}
-use Rattle.rings.specs.Edge.{Edge, HasEdge, IsOnSome, IsOn}
+use Rattle.rings.specs.Edge.{Edge, HasEdge, IsOn, IsOnSome}
 
 -- segments that in the end miss each edge that x is not on in the end miss all of some edges where x is on none of them
 all_missed : (x : Triple) (p q : ℕ → Triple)

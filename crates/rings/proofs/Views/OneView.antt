@@ -2,8 +2,7 @@
 use Rattle.std.proofs.Common.{◌≡◌, inl, inr, sym, subst, ℕ, ◌<◌, List, length}
 use Rattle.plane.proofs.Points.{whole_is_point}
 use Rattle.plane.proofs.Segments.{later_between, on_antisym, on_first_end, on_last_end, on_nested, on_reversed, on_same_point}
-use Rattle.plane.specs.Point.{IsPoint, IsSame, Point, Triple, whole}
-use Rattle.plane.specs.Segment.{On}
+use Rattle.plane.specs.Prelude.{IsPoint, IsSame, On, Point, Triple, whole}
 use Rattle.rings.proofs.Views.Rising.{IsAmong, as_long, same_numbers}
 use Rattle.rings.specs.Ring.{vertex}
 use Rattle.rings.specs.Visible.{AreParts, IsPart, IsUnseen, Part, part_at}

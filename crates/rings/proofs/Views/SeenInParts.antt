@@ -2,16 +2,12 @@
 use Rattle.std.proofs.Common.{inl, inr, sym, subst, ℕ, ◌<◌, List, length}
 use Rattle.plane.proofs.Points.{same_sym, whole_is_point}
 use Rattle.plane.proofs.Segments.{later_between, on_first_end, on_nested, on_one_side, on_reversed}
-use Rattle.plane.specs.Point.{IsPoint, Point, Triple, whole}
-use Rattle.plane.specs.Segment.{On}
+use Rattle.plane.specs.Prelude.{IsPoint, On, Point, Triple, whole}
 use Rattle.rings.proofs.Crossings.{in_law}
 use Rattle.rings.proofs.Inside.{in_same, outside}
 use Rattle.rings.proofs.Simple.{same_or_not}
 use Rattle.rings.proofs.Vertices.{FirstHit, first_hit_or_misses, misses_before, on_some_edge}
-use Rattle.rings.specs.Edge.{edges_of}
-use Rattle.rings.specs.Inside.{IsIn}
-use Rattle.rings.specs.Ring.{IsOnEdge}
-use Rattle.rings.specs.Sees.{Sees}
+use Rattle.rings.specs.Prelude.{edges_of, IsIn, IsOnEdge, Sees}
 use Rattle.rings.specs.Visible.{AreParts, IsInView, Part, ViewLaw}
 
 module _ (ring : List Point) where

@@ -5,12 +5,10 @@ use Rattle.std.proofs.Math.ListN.{length-map}
 use Rattle.std.proofs.lemmas.List.{get_or-map, get_or-reverse, length-reverse}
 use Rattle.plane.proofs.Points.{whole_is_point}
 use Rattle.plane.proofs.Segments.{later_between, on_last_end, on_reversed}
-use Rattle.plane.specs.Point.{Point, Triple, whole}
-use Rattle.plane.specs.Segment.{On}
+use Rattle.plane.specs.Prelude.{On, Point, Triple, whole}
 use Rattle.rings.proofs.Inside.{sees_turned_iff}
 use Rattle.rings.proofs.Turned.{length-turned_round, turned_begin, turned_end}
-use Rattle.rings.specs.Orientation.{turned_round}
-use Rattle.rings.specs.Ring.{IsOnEdge, origin, vertex}
+use Rattle.rings.specs.Prelude.{IsOnEdge, origin, turned_round, vertex}
 use Rattle.rings.specs.Visible.{AreParts, IsInTriangleOf, IsInView, IsPart, IsUnseen, Part, part_at, turned_part, turned_parts}
 
 -- ---- one edge
