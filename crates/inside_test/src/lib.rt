@@ -3,6 +3,7 @@
 
 mod breakpoint;
 mod crossing;
+mod edge_meetings;
 mod level;
 mod position;
 mod segment;

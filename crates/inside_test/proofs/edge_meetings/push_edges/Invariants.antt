@@ -1,6 +1,6 @@
 use Rattle.std.proofs.Common.{◌+◌, ◌*◌, ◌≤◌, ◌-◌, length}
 use Rattle.plane.specs.Point.{whole}
-use Rattle.inside_test.proofs.segment.push_edges.Given as goal
+use Rattle.inside_test.proofs.edge_meetings.push_edges.Given as goal
 use Rattle.inside_test.specs.Breakpoints.{ListsMeetings, breakpoint_points}
 
 abbrev pub invariant-loop-first : goal.invariant-loop-first

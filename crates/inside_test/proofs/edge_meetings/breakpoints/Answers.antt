@@ -1,6 +1,6 @@
 use Rattle.std.proofs.Common.{ap}
 use Rattle.inside_test.proofs.PointLists.{lists_ends}
-use Rattle.inside_test.proofs.segment.breakpoints.Goals as goal
+use Rattle.inside_test.proofs.edge_meetings.breakpoints.Goals as goal
 use Rattle.inside_test.specs.Breakpoints.{breakpoint_points}
 
 pub push_edges-requires : goal.push_edges-requires

@@ -1,7 +1,7 @@
 use Rattle.plane.proofs.Points.{whole_is_point}
 use Rattle.plane.specs.Point.{whole}
 use Rattle.inside_test.proofs.PointLists.{extends_pushed}
-use Rattle.inside_test.proofs.segment.push_if_on.Goals as goal
+use Rattle.inside_test.proofs.edge_meetings.push_if_on.Goals as goal
 use Rattle.inside_test.specs.Breakpoints.{breakpoint_points}
 
 pub returns-clause-extends : goal.returns-clause-extends

@@ -4,7 +4,7 @@ use Rattle.plane.specs.Line.{cross_product}
 use Rattle.plane.specs.Point.{whole}
 use Rattle.inside_test.proofs.Meetings.{encloses_crossing, encloses_parallel, meeting_on_first}
 use Rattle.inside_test.proofs.PointLists.{extends_listed, extends_trans}
-use Rattle.inside_test.proofs.segment.push_meetings.Goals as goal
+use Rattle.inside_test.proofs.edge_meetings.push_meetings.Goals as goal
 use Rattle.inside_test.specs.Breakpoints.{breakpoint_points}
 
 pub returns-in-Some : goal.returns-in-Some

@@ -1,7 +1,7 @@
 use Rattle.std.proofs.Common.{◌≡◌, subst, arith}
 use Rattle.plane.specs.Point.{whole}
 use Rattle.inside_test.proofs.PointLists.{lists_more}
-use Rattle.inside_test.proofs.segment.push_block.Goals as goal
+use Rattle.inside_test.proofs.edge_meetings.push_block.Goals as goal
 use Rattle.inside_test.specs.Breakpoints.{ListsMeetings, breakpoint_points}
 
 pub loop-i-init : goal.loop-i-init
@@ -24,5 +24,5 @@ loop-i-preserved g c =
 pub returns-clause-points : goal.returns-clause-points
 returns-clause-points g c =
     let ring = c.args.ring.now.corners in
-    let all : c.loop-i.i ≡ c.args.end = omega arith in
+    let all : c.loop-i.i ≡ c.args.edges.end = omega arith in
     subst (λ n. ListsMeetings ring n (whole c.args.a.now) (whole c.args.b.now) (breakpoint_points c.loop-i.points.items)) all c.loop-i.invariant.points

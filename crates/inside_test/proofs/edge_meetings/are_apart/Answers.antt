@@ -1,7 +1,7 @@
 use Rattle.std.proofs.Common.{arith}
 use Rattle.std.proofs.lemmas.Bool.{not-true}
 use Rattle.inside_test.proofs.Blocks.{block_apart}
-use Rattle.inside_test.proofs.segment.are_apart.Goals as goal
+use Rattle.inside_test.proofs.edge_meetings.are_apart.Goals as goal
 
 pub returns-clause-apart : goal.returns-clause-apart
 returns-clause-apart g c = λ apart.

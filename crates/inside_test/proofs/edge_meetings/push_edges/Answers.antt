@@ -1,7 +1,7 @@
 use Rattle.std.proofs.Common.{arith}
 use Rattle.rings.specs.Ring.{origin}
 use Rattle.inside_test.proofs.PointLists.{lists_past}
-use Rattle.inside_test.proofs.segment.push_edges.Goals as goal
+use Rattle.inside_test.proofs.edge_meetings.push_edges.Goals as goal
 use Rattle.inside_test.specs.Breakpoints.{breakpoint_points}
 
 pub loop-first-preserved : goal.loop-first-preserved

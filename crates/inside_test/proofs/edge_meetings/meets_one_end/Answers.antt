@@ -1,5 +1,5 @@
 use Rattle.inside_test.proofs.Meetings.{encloses_one_end}
-use Rattle.inside_test.proofs.segment.meets_one_end.Goals as goal
+use Rattle.inside_test.proofs.edge_meetings.meets_one_end.Goals as goal
 
 pub returns-clause-encloses : goal.returns-clause-encloses
 returns-clause-encloses g c =

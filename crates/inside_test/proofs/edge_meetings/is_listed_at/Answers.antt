@@ -1,7 +1,7 @@
 use Rattle.std.proofs.Common.{◌≡◌, rules}
 use Rattle.std.specs.declared.cmp.Ordering.TheVariants.{Equal}
 use Rattle.inside_test.proofs.PointLists.{listed_at}
-use Rattle.inside_test.proofs.segment.is_listed_at.Goals as goal
+use Rattle.inside_test.proofs.edge_meetings.is_listed_at.Goals as goal
 
 pub returns-then-i-points : goal.returns-then-i-points
 returns-then-i-points c h =
