@@ -50,8 +50,8 @@ pub fn turn<L: Ledger>(a: &Pt, b: &Pt, c: &Pt, steps: &mut Steps<L>) -> Directio
     Direction::of_sign(a.to(b).cross(a.to(c)) as i128)
 }
 
-// Whether the turn from `a` over `b` to `c` is this one. It takes one step.
-pub(crate) fn turns<L: Ledger>(way: Direction, a: &Pt, b: &Pt, c: &Pt, steps: &mut Steps<L>) -> bool
+/// Returns whether the turn on the way from `a` over `b` to `c` is this one. It takes one step.
+pub fn turns<L: Ledger>(way: Direction, a: &Pt, b: &Pt, c: &Pt, steps: &mut Steps<L>) -> bool
     ensures turns { IsTrue result ↔ (turn_of (whole a.now) (whole b.now) (whole c.now) ≡ way) }
     ensures steps { steps.new ≡ steps.old + 1 }
 {

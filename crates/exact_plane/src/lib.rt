@@ -20,7 +20,7 @@ mod wide;
 
 pub use bounding_box::BoundingBox;
 pub use cone::in_cone;
-pub use direction::{Direction, turn};
+pub use direction::{Direction, turn, turns as turns_to};
 pub use extent::{is_within, order_upward};
 pub use hom::{Hom, order_hom, turn_hom};
 pub use memory::Memory;

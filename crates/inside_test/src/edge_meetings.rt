@@ -5,7 +5,6 @@ ghost use Rattle.std.specs.Prelude.{IfNone, IfOk, IfSome, IsTrue, OnOk, OnErr, f
 ghost use Rattle.plane.specs.Point.{IsPoint, Point, Triple, whole};
 ghost use Rattle.plane.specs.Segment.{On};
 ghost use Rattle.exact_plane.specs.Boxes.{Encloses};
-ghost use Rattle.exact_plane.specs.Direction.{turn_of};
 ghost use Rattle.exact_plane.specs.Size.{IsNarrow};
 ghost use Rattle.inside_test.specs.Apart.{MissesEdges};
 ghost use Rattle.inside_test.specs.Breakpoints.{EnclosesAll, ExtendsOnSegment, IsListed, Lists, ListsMeetings, breakpoint_points};
@@ -13,7 +12,7 @@ ghost use Rattle.inside_test.specs.Breakpoints.{EnclosesAll, ExtendsOnSegment, I
 use crate::breakpoint::Breakpoint;
 use crate::position::BLOCK;
 use exact_plane::{
-    BoundingBox, Direction, Hom, Memory, Pt, Steps, on_segment, segments_meet, turn,
+    BoundingBox, Direction, Hom, Memory, Pt, Steps, on_segment, segments_meet, turns_to,
 };
 use ring_check::Ring;
 use std::alloc::Global;
@@ -164,15 +163,8 @@ fn meets_one_end<L: Ledger>(a: &Pt, b: &Pt, c: &Pt, d: &Pt, steps: &mut Steps<L>
         → EnclosesAll points (whole a.now) (whole b.now) (whole c.now) (whole d.now) }
     ensures steps { steps.new ≡ steps.old + 2 }
 {
-    is_on_line(c, d, a, steps) != is_on_line(c, d, b, steps)
-}
-
-// Whether `p` is on the line through `a` and `b`.
-fn is_on_line<L: Ledger>(a: &Pt, b: &Pt, p: &Pt, steps: &mut Steps<L>) -> bool
-    ensures straight { IsTrue result ↔ (turn_of (whole a.now) (whole b.now) (whole p.now) ≡ Direction.Straight) }
-    ensures steps { steps.new ≡ steps.old + 1 }
-{
-    turn(a, b, p, steps) == Direction::Straight
+    let straight = Direction::Straight;
+    turns_to(straight, c, d, a, steps) != turns_to(straight, c, d, b, steps)
 }
 
 // Appends `p`, if it is on the segment from `a` to `b`.

@@ -5,12 +5,11 @@ ghost use Rattle.rings.specs.Bend.{AreNeighbours, IsReflexVertex};
 ghost use Rattle.rings.specs.Chain.{IsInner, point_at};
 ghost use Rattle.rings.specs.Orientation.{IsReflex};
 ghost use Rattle.rings.specs.Ring.{vertex};
-ghost use Rattle.exact_plane.specs.Direction.{turn_of};
 ghost use Rattle.taut_check.specs.Found.{IsNoReflexBefore};
 ghost use Rattle.taut_check.specs.Verdict.{HasNoTurn, IsOnWrongSide};
 
 use crate::chain::point;
-use exact_plane::{Direction, Pt, Steps, in_cone, order, turn};
+use exact_plane::{Direction, Pt, Steps, in_cone, order, turns_to};
 use ring_check::Ring;
 use std::cmp::Ordering;
 use std::sync::ledger::Ledger;
@@ -55,15 +54,7 @@ pub fn has_no_turn<L: Ledger>(points: &[Pt], k: usize, steps: &mut Steps<L>) -> 
     ensures steps { steps.new ≡ steps.old + 1 }
 {
     let (p, v, q) = (point(points, k - 1), point(points, k), point(points, k + 1));
-    are_in_line(&v, &p, &q, steps)
-}
-
-// Whether three points are on one line.
-fn are_in_line<L: Ledger>(a: &Pt, b: &Pt, c: &Pt, steps: &mut Steps<L>) -> bool
-    ensures straight { IsTrue result ↔ (turn_of (whole a.now) (whole b.now) (whole c.now) ≡ Direction.Straight) }
-    ensures steps { steps.new ≡ steps.old + 1 }
-{
-    turn(a, b, c, steps) == Direction::Straight
+    turns_to(Direction::Straight, &v, &p, &q, steps)
 }
 
 // Whether a ring neighbour of the point at place `k`, vertex `i` of the ring, is outside the closed cone between the
