@@ -58,7 +58,11 @@ impl Mesh {
     }
 
     /// Returns the mesh of these triangles, which keeps a hierarchy over them. If memory runs out, both are dropped.
-    pub fn with_hierarchy(alloc: Global, tris: Vec<Tri>, hierarchy: Hierarchy) -> Result<Mesh, Memory>
+    pub fn with_hierarchy(
+        alloc: Global,
+        tris: Vec<Tri>,
+        hierarchy: Hierarchy,
+    ) -> Result<Mesh, Memory>
         requires fits { IsMesh tris.items }
         requires few { vec_len tris < 2 ^ 30 }
         ensures { IfOk result (λ mesh. mesh ≡ tris.items) }
