@@ -1,5 +1,5 @@
 use Rattle.std.proofs.Common.{◌+◌, ◌*◌, ◌≤◌, length}
-use Rattle.geo_session.proofs.hull.firsts.Given as goal
+use Rattle.geo_session.proofs.span.firsts.Given as goal
 use Rattle.geo_session.specs.Span.{AreFirstsBelow}
 
 abbrev pub invariant-loop-i : goal.invariant-loop-i

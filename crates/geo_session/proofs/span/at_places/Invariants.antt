@@ -1,5 +1,5 @@
 use Rattle.std.proofs.Common.{◌≡◌, ◌≤◌, length, map, slice_index_or, take, vec_capacity, vec_len}
-use Rattle.geo_session.proofs.hull.at_places.Given as goal
+use Rattle.geo_session.proofs.span.at_places.Given as goal
 
 abbrev pub invariant-loop-place : goal.invariant-loop-place
 invariant-loop-place g l = record {

@@ -1,5 +1,5 @@
 use Rattle.std.proofs.Common.{◌≢◌, ℕ, ◌+◌, ◌<◌, ◌≤◌}
-use Rattle.geo_session.proofs.hull.is_repeated.Given as goal
+use Rattle.geo_session.proofs.span.is_repeated.Given as goal
 use Rattle.rings.specs.Chain.{point_at}
 
 abbrev pub invariant-loop-j : goal.invariant-loop-j

@@ -1,4 +1,4 @@
-use Rattle.geo_c.proofs.tests.many_questions.Given as goal
+use Rattle.geo_c.proofs.tests.many.many_questions.Given as goal
 
 -- a ledger that nobody else counts in
 abbrev pub ghosts-large_fractions : goal.ghosts-large_fractions

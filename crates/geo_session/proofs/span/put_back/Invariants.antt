@@ -1,5 +1,5 @@
 use Rattle.std.proofs.Common.{◌≡◌, map, vec_capacity}
-use Rattle.geo_session.proofs.hull.put_back.Given as goal
+use Rattle.geo_session.proofs.span.put_back.Given as goal
 use Rattle.geo_session.specs.Span.{AreTurned}
 
 abbrev pub invariant-loop-c : goal.invariant-loop-c

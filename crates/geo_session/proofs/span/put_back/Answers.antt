@@ -2,7 +2,7 @@ use Rattle.std.proofs.Common.{◌≡◌, ◌∙◌, ◌+◌, ◌*◌, ◌<◌, �
 use Rattle.plane.specs.Point.{Point}
 use Rattle.std.proofs.lemmas.List.{get_or-map, length-map, map_push}
 use Rattle.geo_session.proofs.HullRows.{turned_more, turned_place}
-use Rattle.geo_session.proofs.hull.put_back.Goals as goal
+use Rattle.geo_session.proofs.span.put_back.Goals as goal
 
 pub loop-c-preserved : goal.loop-c-preserved
 loop-c-preserved c =

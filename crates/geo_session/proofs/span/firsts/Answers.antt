@@ -2,8 +2,8 @@ use Rattle.std.proofs.Common.{◌≡◌, ◌+◌, ℕ, arith, length, subst}
 use Rattle.std.proofs.lemmas.List.{length_push}
 use Rattle.rel_hull.proofs.Costs.{one_more, within_rounds}
 use Rattle.geo_session.proofs.Spanned.{firsts_all, firsts_more, firsts_same}
-use Rattle.geo_session.proofs.hull.firsts.Goals as goal
-use Rattle.geo_session.proofs.hull.firsts.Goals.{else-not-is_repeated, then-not-is_repeated+in_ok-push}
+use Rattle.geo_session.proofs.span.firsts.Goals as goal
+use Rattle.geo_session.proofs.span.firsts.Goals.{else-not-is_repeated, then-not-is_repeated+in_ok-push}
 use Rattle.geo_session.specs.Span.{AreFirstsBelow}
 
 pub loop-i-preserved : goal.loop-i-preserved

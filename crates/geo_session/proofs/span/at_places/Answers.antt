@@ -1,7 +1,7 @@
 use Rattle.std.proofs.Common.{◌∙◌, ◌+◌, ap, arith, slice_index_or}
 use Rattle.std.proofs.lemmas.List.{get_or_read}
 use Rattle.geo_reply.proofs.MapFront.{map_pushed, map_whole}
-use Rattle.geo_session.proofs.hull.at_places.Goals as goal
+use Rattle.geo_session.proofs.span.at_places.Goals as goal
 
 pub loop-place-init : goal.loop-place-init
 loop-place-init g c = record { are = λ d. c.in_ok-found.ensures.items; count = c.in_ok-found.ensures.len; room = c.in_ok-found.ensures.capacity }
