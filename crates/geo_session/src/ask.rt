@@ -61,7 +61,9 @@ pub(crate) fn ask<L: Ledger>(
         (Some(held), Command::Sights) => held.sights(alloc, steps),
         (Some(held), Command::Inside(p)) => Ok(unchanged(Reply::Place(held.place(&p, steps)))),
         (Some(held), Command::Check(points)) => told(held.judge(alloc, points.as_slice(), steps)),
-        (Some(held), Command::Path(s, t)) => told(path_reply(held.path(alloc, version, &s, &t, steps))),
+        (Some(held), Command::Path(s, t)) => told(path_reply(held.path(
+            alloc, version, &s, &t, steps,
+        ))),
         (Some(held), Command::Reach(t)) => told(path_reply(held.reach(alloc, version, &t, steps))),
         (Some(held), Command::See(q)) => told(held.view(alloc, &q, steps)),
         (Some(held), Command::Kernel) => told(held.kernel(alloc, steps)),

@@ -184,9 +184,7 @@ pub(crate) fn put_points<'a>(points: &mut Vec<Pt>, names: &[Spot], board: &Board
 }
 
 // What is told of a path, or the refusal, as a reply.
-pub(crate) fn path_reply(
-    found: Result<Result<Vec<Pt>, Bad>, Memory>,
-) -> Result<Reply, Memory>
+pub(crate) fn path_reply(found: Result<Result<Vec<Pt>, Bad>, Memory>) -> Result<Reply, Memory>
     requires { IfOk found (λ told. IfOk told (λ points. length points.items < 2 ^ 32)) }
     ensures { (version : Version) → (kept : Kept) → (asked : Command) → IfOk found (λ told. IsReplyIn version kept asked (reply_of path_of told))
         → IfOk result (IsReplyIn version kept asked) }

@@ -164,7 +164,11 @@ fn is_repeated<L: Ledger>(points: &[Pt], i: usize, steps: &mut Steps<L>) -> bool
 }
 
 // The items at these places.
-pub(crate) fn at_places<T: Copy>(alloc: Global, items: &[T], places: &[u32]) -> Result<Vec<T>, Memory>
+pub(crate) fn at_places<T: Copy>(
+    alloc: Global,
+    items: &[T],
+    places: &[u32],
+) -> Result<Vec<T>, Memory>
     requires { (k : ℕ) → k < length places.now → slice_index places.now k < length items.now }
     ensures count { IfOk result (λ found. length found.items ≡ length places.now) }
     ensures items { IfOk result (λ found. (d : T) → found.items ≡ map (λ place. slice_index_or items.now place d) places.now) }
