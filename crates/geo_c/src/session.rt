@@ -99,22 +99,24 @@ pub extern "C" fn geo_session_path(
     ensures memory { result ≡ MEMORY → (points.new ≡ points.old) × (needed.new ≡ needed.old) }
     ensures same { session.new.held ≡ session.old.held }
 {
-    path::<Brand>(
-        alloc,
-        session,
-        (from_x, from_y),
-        (to_x, to_y),
-        points,
-        needed,
-        Blank::new(1),
-    )
+    let ends = Ends {
+        from: (from_x, from_y),
+        to: (to_x, to_y),
+    };
+    path::<Brand>(alloc, session, ends, points, needed, Blank::new(1))
+}
+
+// The two points that a path joins.
+#[derive(Clone, Copy)]
+struct Ends {
+    from: (i64, i64),
+    to: (i64, i64),
 }
 
 fn path<L: Ledger>(
     alloc: Global,
     session: &mut GeoSession,
-    from: (i64, i64),
-    to: (i64, i64),
+    ends: Ends,
     points: &mut [GeoPoint],
     needed: &mut usize,
     blank: Blank,
@@ -122,14 +124,14 @@ fn path<L: Ledger>(
     requires name { blank.name ≡ L.name }
     requires parts { blank.parts ≡ L.parts }
     requires countable { 0 < blank.parts }
-    ensures answer { result ≢ MEMORY → TellsPathResult (talk_of session.old.held) (record { x = from.0; y = from.1 }) (record { x = to.0; y = to.1 })
+    ensures answer { result ≢ MEMORY → TellsPathResult (talk_of session.old.held) (record { x = ends.from.0; y = ends.from.1 }) (record { x = ends.to.0; y = ends.to.1 })
         (ArePointsGiven result needed.old needed.new points.old points.new) }
     ensures few { result ≡ OK → needed.new ≤ MAX_CORNERS + 2 }
     ensures memory { result ≡ MEMORY → (points.new ≡ points.old) × (needed.new ≡ needed.old) }
     ensures same { session.new.held ≡ session.old.held }
 {
     let mut steps = Steps::<L>::new(blank);
-    match session.path(alloc, from, to, &mut steps) {
+    match session.path(alloc, ends.from, ends.to, &mut steps) {
         Ok(found) => give(found, points, needed, &mut steps),
         Err(Memory) => MEMORY,
     }
@@ -151,14 +153,14 @@ pub extern "C" fn geo_session_reach(
     ensures memory { result ≡ MEMORY → (points.new ≡ points.old) × (needed.new ≡ needed.old) }
     ensures same { session.new.held ≡ session.old.held }
 {
-    reach::<Brand>(alloc, session, to_x, to_y, points, needed, Blank::new(1))
+    let goal = (to_x, to_y);
+    reach::<Brand>(alloc, session, goal, points, needed, Blank::new(1))
 }
 
 fn reach<L: Ledger>(
     alloc: Global,
     session: &mut GeoSession,
-    x: i64,
-    y: i64,
+    goal: (i64, i64),
     points: &mut [GeoPoint],
     needed: &mut usize,
     blank: Blank,
@@ -166,14 +168,14 @@ fn reach<L: Ledger>(
     requires name { blank.name ≡ L.name }
     requires parts { blank.parts ≡ L.parts }
     requires countable { 0 < blank.parts }
-    ensures answer { result ≢ MEMORY → TellsReach (talk_of session.old.held) (record { x = x; y = y })
+    ensures answer { result ≢ MEMORY → TellsReach (talk_of session.old.held) (record { x = goal.0; y = goal.1 })
         (ArePointsGiven result needed.old needed.new points.old points.new) }
     ensures few { result ≡ OK → needed.new ≤ MAX_CORNERS + 3 }
     ensures memory { result ≡ MEMORY → (points.new ≡ points.old) × (needed.new ≡ needed.old) }
     ensures same { session.new.held ≡ session.old.held }
 {
     let mut steps = Steps::<L>::new(blank);
-    match session.reach(alloc, x, y, &mut steps) {
+    match session.reach(alloc, goal.0, goal.1, &mut steps) {
         Ok(found) => give(found, points, needed, &mut steps),
         Err(Memory) => MEMORY,
     }

@@ -1,7 +1,7 @@
 -- The comb as a session takes it.
-use Rattle.std.proofs.Common.{◌≡◌, ◌∙◌, inl, inr, ap, subst, sym, ℕ, ◌<◌, List, [], ◌∷◌, Result, Ok, Err, Vec, Global, arith}
+use Rattle.std.proofs.Common.{◌≡◌, ◌∙◌, inl, inr, ap, refl, subst, sym, ℕ, ◌<◌, List, [], ◌∷◌, Result, Ok, Err, Vec, Global, arith}
 use Rattle.std.proofs.lemmas.Bool.{cases_lt}
-use Rattle.std.specs.Prelude.{None, Some}
+use Rattle.std.specs.Prelude.{IsOk, None, Some}
 use Rattle.plane.specs.Point.{Point, whole}
 use Rattle.rings.proofs.Simple.{no_least_clash}
 use Rattle.rings.specs.Chain.{IsPath, point_at}
@@ -39,7 +39,7 @@ module _ (state : State) (ring : List Point) (s t s' t' : Point) (found : Result
           let same : points.items ≡ h.value = cc in
           subst (IsPath ring s t) (sym (same ∙ h.holds.is_shown)) h.holds.is_path
 
-  pub never_refuses : (fault : Bad) → IsIn ring (whole s) → IsIn ring (whole t) → ¬ (found ≡ Err fault)
+  never_refuses : (fault : Bad) → IsIn ring (whole s) → IsIn ring (whole t) → ¬ (found ≡ Err fault)
   never_refuses fault start goal is = by_reply (rw (held, from, to, is) at answer)
     where
       both : (k : ℕ) → k < 2 → IsIn ring (whole (point_at (s ∷ t ∷ []) k))
@@ -51,3 +51,10 @@ module _ (state : State) (ring : List Point) (s t s' t' : Point) (found : Result
       by_reply : IsPathReply version.One ring s t (reply.Refused fault) → ⊥
       by_reply (outside name h e) = h.first.outside (both h.k h.first.in_list)
       by_reply (within all h) = absurd cc
+
+  pub is_answered : IsIn ring (whole s) → IsIn ring (whole t) → IsOk found
+  is_answered start goal = by_found found refl
+    where
+      by_found : (it : Result (Vec Point Global) Bad) → found ≡ it → IsOk it
+      by_found (Ok points) is = tt
+      by_found (Err fault) is = absurd (never_refuses fault start goal is)

@@ -4,15 +4,11 @@ use Rattle.std.proofs.KnownBytes.{Appends-nil, Appends-trans}
 use Rattle.std.specs.Io.KnownBytes.{Appends}
 use Rattle.geo_io.specs.Transfers.{AppendsFront}
 use Rattle.geo_text.specs.Records.{Unread, records_of}
-use Rattle.geo_session.specs.Laws.{OneAnswerLaw}
-use Rattle.geo_session.specs.Output.{AreFirstAnswers, IsOutput}
-use Rattle.geo_session.specs.Prepared.{Seen}
+use Rattle.geo_session.specs.Output.{AreFirstAnswers}
 use Rattle.geo_session.specs.State.{State, first_state}
 use Rattle.geo_script.proofs.NextRecord.{all_records, answer_is, none_answered, one_more}
-use Rattle.geo_script.proofs.Paid.{begins_script, one_paid, whole_paid}
 use Rattle.geo_script.specs.Answered.{AnswersRecord}
-use Rattle.geo_script.specs.ScriptSteps.{TakesRecordSteps, corners_within, script_steps}
-use Rattle.geo_run.specs.Progress.{PaidRun, WrittenSoFar, whole_script}
+use Rattle.geo_run.specs.Progress.{WrittenSoFar, whole_script}
 use Rattle.geo_run.specs.Run.{WritesFirstAndFront, WritesOutput}
 
 module _ (bytes : List ℕ) (script script' : Unread) (state after : State) (taken now next : Option (List ℕ)) (faults faults' : ℕ) (out out' : List ℕ)
@@ -69,30 +65,3 @@ all_written bytes script state taken now faults faults' out done none =
       defined = record { state = state; answers = subst (λ records. AreFirstAnswers bytes records done.output state) all done.answered.answers };
       written = done.written;
     }
-
--- ---- the steps are paid for by the bytes of the script and of its output
-
--- before the first record
-pub begins_paid : (bytes : List ℕ) (taken : Option (List ℕ)) (faults start : ℕ) → PaidRun bytes (whole_script bytes) first_state taken taken faults faults [] start start
-unfolding nothing_read
-begins_paid bytes taken faults start = record { so_far = nothing_read bytes taken faults; paid = begins_script bytes start }
-
--- one record more
-pub one_more_paid : (bytes : List ℕ) (script script' : Unread) (seen : Seen) (after : State) (taken now next : Option (List ℕ)) (faults faults' faults'' : ℕ) (out out' : List ℕ)
-    (start steps steps' : ℕ) → PaidRun bytes script seen.state taken now faults faults' out start steps → TakesRecordSteps script script' seen steps steps'
-    → AnswersRecord script script' seen.state after out out' → Appends now next out' → faults'' ≡ faults'
-    → PaidRun bytes script' after taken next faults faults'' [] start steps'
-unfolding written_whole
-one_more_paid bytes script script' seen after taken now next faults faults' faults'' out out' start steps steps' before took one written same = record {
-  so_far = written_whole bytes script script' seen.state after taken now next faults faults' out out' before.so_far one faults'' written same;
-  paid = one_paid (corners_within (length bytes)) (length bytes) start (omega arith) script script' seen before.so_far.output steps steps' before.paid after _
-      (record { reading = one.reading; taken = one.taken; answered = record { text = one.answered.text; answer = one.answered.answer; appended = refl } }) took;
-}
-
--- whatever came of the last one
-pub run_paid : (bytes : List ℕ) (script script' : Unread) (seen : Seen) (taken now : Option (List ℕ)) (faults faults' : ℕ) (out : List ℕ)
-    (start steps steps' : ℕ) → PaidRun bytes script seen.state taken now faults faults' out start steps → TakesRecordSteps script script' seen steps steps'
-    → OneAnswerLaw → (output : List ℕ) → IsOutput bytes output → steps' ≤ start + script_steps (length bytes) + 16 * length output
-run_paid bytes script script' seen taken now faults faults' out start steps steps' before took law output defined =
-    whole_paid (corners_within (length bytes)) (length bytes) start (omega arith) script script' seen before.so_far.output steps steps' before.paid
-    law (whole_script bytes) first_state defined.state output before.so_far.answered defined.answers took

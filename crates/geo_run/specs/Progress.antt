@@ -1,12 +1,10 @@
 -- How far a run has come. No public clause cites this module.
 use Rattle.std.specs.Io.KnownBytes.{Appends}
-use Rattle.std.specs.Prelude.{◌≡◌, false, ℕ, List, [], length, Option}
+use Rattle.std.specs.Prelude.{◌≡◌, false, ℕ, List, [], Option}
 use Rattle.geo_text.specs.Records.{Unread, records_of}
 use Rattle.geo_text.specs.declared.version.Version.TheVariants as version
 use Rattle.geo_session.specs.State.{State, first_state}
 use Rattle.geo_script.specs.Answered.{AnsweredSoFar}
-use Rattle.geo_script.specs.Progress.{IsPaidFor}
-use Rattle.geo_script.specs.ScriptSteps.{corners_within}
 
 -- a script before its first record
 abbrev pub whole_script : List ℕ → Unread
@@ -19,8 +17,3 @@ pub record WrittenSoFar (bytes : List ℕ) (script : Unread) (state : State) (ta
   pub written : Appends taken taken' output
   pub no_fault : faults' ≡ faults
   pub all_written : out ≡ []
-
--- and their steps are paid for
-pub record PaidRun (bytes : List ℕ) (script : Unread) (state : State) (taken taken' : Option (List ℕ)) (faults faults' : ℕ) (out : List ℕ) (start steps : ℕ) : Type 0 where
-  pub so_far : WrittenSoFar bytes script state taken taken' faults faults' out
-  pub paid : IsPaidFor (corners_within (length bytes)) (length bytes) start script.left state so_far.output steps

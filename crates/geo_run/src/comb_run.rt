@@ -75,8 +75,6 @@ fn path_through<L: Ledger>(
     ensures few { IfOk result (λ points. length points.items ≤ MAX_CORNERS + 1) }
 {
     comb_ring(k);
-    match session.chain(alloc, &comb_start(), &comb_goal(k), steps)? {
-        Ok(points) => Ok(points),
-        Err(_) => unreachable!(),
-    }
+    let found = session.chain(alloc, &comb_start(), &comb_goal(k), steps)?;
+    Ok(found.unwrap())
 }

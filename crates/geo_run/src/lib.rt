@@ -5,5 +5,5 @@ mod comb_run;
 mod run;
 mod sure;
 
-pub use run::{RunFault, answer_script, geo_main};
+pub use run::{RunFault, geo_main};
 pub use sure::{sure_sink_main, sure_source_main};

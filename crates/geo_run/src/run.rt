@@ -1,4 +1,4 @@
-ghost use Rattle.std.specs.Prelude.{◌≡◌, ◌<◌, ◌≤◌, ◌⊎◌, ℕ, ◌+◌, ◌*◌, List, Err, IsOk, IfSome, OnOk, OnErr, length, map, string_bytes};
+ghost use Rattle.std.specs.Prelude.{◌≡◌, ◌<◌, ◌≤◌, ◌⊎◌, ℕ, Err, IsOk, IfSome, OnOk, OnErr, length, map, string_bytes};
 ghost use Rattle.plane.specs.declared.limits.TheConstants.{MAX_SCRIPT};
 ghost use Rattle.geo_io.specs.Counts.{Rose};
 ghost use Rattle.geo_io.specs.Transfers.{GivesAtMost, GivesMoreThan};
@@ -6,8 +6,6 @@ ghost use Rattle.geo_gen.specs.declared.combs.TheConstants.{MAX_TEETH};
 ghost use Rattle.geo_run.specs.Comb.{WritesComb, WritesCombFront};
 ghost use Rattle.geo_run.specs.Fault.{fault_of, exit_status_of, words_fault};
 ghost use Rattle.geo_run.specs.Run.{AfterReading, WritesFirst, WritesFirstAndFront, WritesOutput};
-ghost use Rattle.geo_script.specs.ScriptSteps.{script_steps};
-ghost use Rattle.geo_session.specs.Output.{IsOutput};
 ghost use Rattle.geo_words.specs.Words.{AsksComb, AsksScript, IsTaken};
 ghost use Rattle.geo_run.specs.declared.run.RunFault.TheVariants.{WriteFault, Memory as OutOfMemory};
 
@@ -15,7 +13,7 @@ use crate::comb_run::comb_line;
 use exact_plane::{Memory, Steps};
 use geo_io::{Failed, ReadEnd, Sink, Source, read_all, write_all};
 use geo_script::answer_next;
-use geo_session::{Session, one_answer};
+use geo_session::Session;
 use geo_text::Script;
 use geo_words::{Asked, WordsFault, read_words};
 use plane::MAX_SCRIPT;
@@ -100,37 +98,8 @@ pub fn geo_main<S: Source, K: Sink>(
     }
 }
 
-/// Answers the records of a script in turn, each as soon as it is read. For B bytes it takes at most `script_steps` B steps, and 16
-/// for each byte of the output: with n the least of 16,384 and B / 4, and b the number of its binary digits, the first are
-/// (B + 1) ((29 b b + 64) n n + 1,300 n (b + 2) + 4,200).
-pub fn answer_script<K: Sink, L: Ledger>(
-    alloc: Global,
-    bytes: &[u8],
-    sink: &mut K,
-    steps: &mut Steps<L>,
-) -> Result<(), RunFault>
-    ensures ok { OnOk result (WritesOutput bytes.now (K.taken sink.old) (K.taken sink.new)) }
-    ensures counts { OnOk result (K.faults sink.new ≡ K.faults sink.old) }
-    ensures write_fault { result ≡ Err RunFault.WriteFault → Rose (K.faults sink.old) (K.faults sink.new)
-        × WritesFirstAndFront bytes.now (K.taken sink.old) (K.taken sink.new) }
-    ensures memory { result ≡ Err RunFault.Memory → WritesFirst bytes.now (K.taken sink.old) (K.taken sink.new) }
-    ensures only { OnErr result ((result ≡ Err RunFault.WriteFault) ⊎ (result ≡ Err RunFault.Memory)) }
-    // Also where the sink fails, or memory is refused.
-    ensures steps { (output : List ℕ) → IsOutput bytes.now output → steps.new ≤ steps.old + script_steps (length bytes.now) + 16 * length output }
-{
-    // A law: each record has one answer.
-    one_answer();
-    let mut script = Script::open(alloc, bytes);
-    let mut session = Session::new();
-    let mut out = Vec::new(alloc);
-    'records: while answer_next(alloc, &mut script, &mut session, &mut out, steps)? {
-        write_all(sink, &out)?;
-        out.clear();
-    }
-    Ok(())
-}
-
-// The same with a counter of its own.
+// Answers the records of a script in turn, and writes the answer to each as soon as it is read, with a new counter of steps: `answer_next`
+// bounds the steps of each record.
 fn run_script<K: Sink, L: Ledger>(
     alloc: Global,
     bytes: &[u8],
@@ -148,7 +117,15 @@ fn run_script<K: Sink, L: Ledger>(
     ensures memory { result ≡ Err RunFault.Memory → WritesFirst bytes.now (K.taken sink.old) (K.taken sink.new) }
     ensures only { OnErr result ((result ≡ Err RunFault.WriteFault) ⊎ (result ≡ Err RunFault.Memory)) }
 {
-    answer_script(alloc, bytes, sink, &mut Steps::<L>::new(blank))
+    let mut steps = Steps::<L>::new(blank);
+    let mut script = Script::open(alloc, bytes);
+    let mut session = Session::new();
+    let mut out = Vec::new(alloc);
+    'records: while answer_next(alloc, &mut script, &mut session, &mut out, &mut steps)? {
+        write_all(sink, &out)?;
+        out.clear();
+    }
+    Ok(())
 }
 
 // Writes the line of the comb of `k` teeth.

@@ -38,7 +38,7 @@ later : (next : ℕ) (asked version version' : Version) → next ≢ 0 → versi
 later next asked version version' some is = rw (ne_eqb next 0 some) at is
 
 -- the script's first record says of which version it is, and the later ones keep that
-pub version_after : (first left : List (List (List ℕ))) (fields : List (List ℕ)) (start next : ℕ) (was version version' : Version) → next ≡ start + length first
+version_after : (first left : List (List (List ℕ))) (fields : List (List ℕ)) (start next : ℕ) (was version version' : Version) → next ≡ start + length first
     → (next ≢ 0 → version ≡ (if start == 0 then script_version (first ++ fields ∷ left) else was)) → version' ≡ (if next == 0 then asked_version fields else version)
     → version' ≡ (if start == 0 then script_version (first ++ fields ∷ left) else was)
 version_after [] left fields zero next was version version' counted same is = is ∙ rw counted refl

@@ -34,7 +34,7 @@ no_records_in talk = by_begun talk.begun
     by_begun false = no_records
 
 -- the version is that of the part of the script that the piece is
-pub version_is : (talk : Talk) (piece : List ℕ) → version_of_unread (part_of talk piece) ≡ version_with talk (records_in talk piece)
+version_is : (talk : Talk) (piece : List ℕ) → version_of_unread (part_of talk piece) ≡ version_with talk (records_in talk piece)
 version_is talk piece = by_known talk.known talk.state.version (script_version (records_in talk piece))
   where
     by_known : (known : Bool) (version asked : Version) → (if (if known then 1 else 0) == 0 then asked else version) ≡ (if known then version else asked)

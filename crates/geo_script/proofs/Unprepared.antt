@@ -5,7 +5,7 @@ use Rattle.geo_text.specs.declared.command.Command.{Command}
 use Rattle.geo_text.specs.declared.command.Command.TheVariants as command
 use Rattle.geo_session.specs.Paced.{most_steps}
 use Rattle.geo_session.specs.Prepared.{Seen}
-use Rattle.geo_script.specs.ScriptSteps.{IsReadingPaced, unprepared}
+use Rattle.geo_script.specs.RecordSteps.{IsReadingPaced, unprepared}
 
 made_at_most : (there : Bool) (most : ℕ) → (if there then 0 else most) ≤ most
 made_at_most true most = omega arith

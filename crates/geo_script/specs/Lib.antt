@@ -4,4 +4,4 @@ pub mod AskedTalk
 pub mod Dialog
 pub mod InNumbers
 pub mod Progress
-pub mod ScriptSteps
+pub mod RecordSteps

@@ -11,15 +11,15 @@ ghost use Rattle.geo_session.specs.Reply.{IsFound};
 ghost use Rattle.geo_session.specs.State.{size_of};
 ghost use Rattle.geo_script.specs.Asked.{IsAskedWithin};
 ghost use Rattle.geo_script.specs.AskedTalk.{IsReadingReply, asked_in, asked_talk};
-ghost use Rattle.geo_script.specs.Dialog.{AnswersPiece, AnswersSome, IsTalkOf, Talk, first_talk, records_in};
-ghost use Rattle.geo_script.specs.ScriptSteps.{IsReadingPaced, piece_steps, script_steps, unprepared};
+ghost use Rattle.geo_script.specs.Dialog.{AnswersPiece, AnswersSome, IsTalkOf, first_talk, records_in};
+ghost use Rattle.geo_script.specs.RecordSteps.{IsReadingPaced, unprepared};
 ghost use Rattle.geo_script.specs.declared.dialog.Stop.TheVariants.{Memory as OutOfMemory};
 
 use crate::next::{answer_next, reply};
 use crate::numbers::command;
 use exact_plane::{Memory, Pt, Steps};
 use geo_reply::Reply;
-use geo_session::{Session, one_answer};
+use geo_session::Session;
 use geo_text::{Bad, Command, Limits, Script};
 use inside_test::Position;
 use plane::MAX_SCRIPT;
@@ -89,18 +89,10 @@ impl Dialog {
         ensures too_long { (result ≡ Err Stop.TooLong) ↔ (MAX_SCRIPT < length piece.now) }
         ensures same { result ≡ Err Stop.TooLong → self.new ≡ self.old }
         ensures memory { result ≡ Err Stop.Memory → AnswersSome self.old piece.now self.new }
-
-        // So many steps a byte of the piece, and 16 a byte of all its answers, also where memory is refused.
-        ensures steps { (whole : Talk) → AnswersPiece self.old piece.now whole
-            → steps.new ≤ steps.old + piece_steps (size_of self.old.state.kept) (length piece.now) + 16 * length whole.text }
-        ensures script_steps { self.old.begun ≡ false → (text : List ℕ) → IsOutput piece.now text
-            → steps.new ≤ steps.old + script_steps (length piece.now) + 16 * length text }
     {
         if piece.len() > MAX_SCRIPT {
             return Err(Stop::TooLong);
         }
-        // A law: each record has one answer.
-        one_answer();
         let mut script = self.next_part(alloc, piece);
         self.text.clear();
         'records: while answer_next(alloc, &mut script, &mut self.session, &mut self.text, steps)? {

@@ -4,7 +4,7 @@ ghost use Rattle.geo_text.specs.Reading.{IsWellSized};
 ghost use Rattle.geo_session.specs.Answer.{AppendsReadingAnswer};
 ghost use Rattle.geo_script.specs.Answered.{AnswersRecord, TakesNext};
 ghost use Rattle.geo_script.specs.AskedTalk.{IsReadingReply, state_after_reading};
-ghost use Rattle.geo_script.specs.ScriptSteps.{IsReadingPaced, TakesReadingSteps, TakesRecordSteps};
+ghost use Rattle.geo_script.specs.RecordSteps.{IsReadingPaced, TakesReadingSteps, TakesRecordSteps};
 
 use exact_plane::{Memory, Steps};
 use geo_reply::Reply;

@@ -9,7 +9,7 @@ use Rattle.geo_text.specs.declared.version.Version.TheVariants as version
 use Rattle.rel_hull.specs.Table.{HasChainsBelow, chain_at}
 use Rattle.geo_session.proofs.HullTable.{short_chain}
 use Rattle.geo_session.specs.Span.{IsSpan}
-use Rattle.geo_session.specs.declared.hull.Span.{Span}
+use Rattle.geo_session.specs.declared.span.Span.{Span}
 
 -- a chain of a span has fewer than 2^15 points
 pub chains_below : (ring : List Point) (tris : List Tri) (points : List Point) (span : Span) → IsSpan ring tris points span

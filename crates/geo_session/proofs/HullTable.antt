@@ -15,7 +15,7 @@ use Rattle.geo_session.proofs.Spanned.{chain_between_places}
 use Rattle.geo_session.specs.Hull.{AreFirsts}
 use Rattle.geo_session.specs.Sleeves.{IsPathBetween}
 use Rattle.geo_session.specs.Span.{IsNumberedTable, IsShortPath, IsSpan, numbered}
-use Rattle.geo_session.specs.declared.hull.Span.{Span}
+use Rattle.geo_session.specs.declared.span.Span.{Span}
 
 -- the ends of a side of the numbered points are numbered
 pub side_numbered : (ring points : List Point) (numbers : List ℕ) (sides : List (ℕ × ℕ)) → AreSides ring (map (point_at points) numbers) sides

@@ -20,7 +20,7 @@ use Rattle.geo_session.proofs.Within.{all_given}
 use Rattle.geo_session.specs.Hull.{AreSidesOf}
 use Rattle.geo_session.specs.Span.{AreSidesTold, IsSpan}
 use Rattle.geo_session.specs.Told.{RepliesWithin, Tells, within}
-use Rattle.geo_session.specs.declared.hull.Span.{Span}
+use Rattle.geo_session.specs.declared.span.Span.{Span}
 
 -- ---- the sides
 

@@ -8,7 +8,6 @@ mod GivenKernel
 mod GivenSides
 mod GivenSights
 mod Guarded
-mod Judged
 mod SeenAlong
 mod Places
 mod LocatedIn

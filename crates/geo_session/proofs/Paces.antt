@@ -21,12 +21,12 @@ use Rattle.geo_reply.specs.declared.reply.Reply.{Reply}
 use Rattle.geo_reply.specs.declared.reply.Reply.TheVariants as reply
 use Rattle.geo_session.proofs.GivenSize.{size_held}
 use Rattle.geo_session.proofs.OneReply.{quiet_sights, quiet_tree, same_written}
-use Rattle.geo_session.specs.Asking.{IsWrittenPaced, TakesEither, seen_of}
+use Rattle.geo_session.specs.Asking.{seen_of}
 use Rattle.geo_session.specs.Held.{HeldRing, kept_of}
-use Rattle.geo_session.specs.Paced.{IsPaced, TakesSteps, kernel_steps, mesh_steps, most_steps, path_pace, polygon_steps, reach_pace}
+use Rattle.geo_session.specs.Paced.{IsPaced, TakesPathStepsOrNone, TakesSteps, TakesWritingSteps, kernel_steps, mesh_steps, most_steps, polygon_steps}
 use Rattle.geo_session.specs.Pairs.{IsPairReply, first_off, joined, second_off, too_many}
 use Rattle.geo_session.specs.Path.{IsReachReply, TellsPath}
-use Rattle.geo_session.specs.Prepared.{Seen, pair_pace, table_steps}
+use Rattle.geo_session.specs.Prepared.{Seen}
 use Rattle.geo_session.specs.Reply.{IsReply, IsReplyOf}
 use Rattle.geo_session.specs.State.{Kept, size_of}
 use Rattle.geo_session.specs.Told.{RepliesWithin, outside, within}
@@ -134,7 +134,7 @@ pair_of_kept version (Some kept) i j answered h = paired_path version kept.ring 
 -- the lines of a path or a refusal take few steps, by what was appended, and none where memory is refused
 module _ {E : Type 0} (most : ℕ) (put : Result (Unit {0}) E) (out out' : List ℕ) (steps told done : ℕ) (few : told ≤ steps + most) where
   takes_either : (answered : Reply) → IsPathOrRefused answered → WritesSteps answered told done → OnOk put (out' ≡ out ++ reply_text answered)
-      → OnErr put (done ≤ told + refused_steps answered) → TakesEither most put out out' steps done
+      → OnErr put (done ≤ told + refused_steps answered) → TakesPathStepsOrNone most put out out' steps done
   takes_either answered (path points is) more written refused =
       let wrote : done ≤ told + 64 * length points = subst (λ (r : Reply). WritesSteps r told done) is more in (
         on_ok_weaker put (λ line. record { points = points; printed = inl (line ∙ ap (λ (r : Reply). out ++ reply_text r) is); bound = omega (arith, few, wrote) }) written,
@@ -147,7 +147,7 @@ module _ {E : Type 0} (most : ℕ) (put : Result (Unit {0}) E) (out out' : List 
       )
 
   -- and where no reply was found they take none
-  pub takes_none : done ≡ told → (put_fails : OnOk put ⊥) → TakesEither most put out out' steps done
+  pub takes_none : done ≡ told → (put_fails : OnOk put ⊥) → TakesPathStepsOrNone most put out out' steps done
   takes_none same fails = (on_ok_weaker put (λ none. absurd none) fails, err_since put (omega (arith, few, same)))
 
 -- the lines of a reply are added to it, also where want of memory cuts them off
@@ -162,7 +162,7 @@ module _ {E : Type 0} (seen : Seen) (put : Result (Unit {0}) E) (out out' : List
   -- so a command is paced with its lines,
   pub written_paced : (asked : Command) (answered : Reply) → IsReply seen.state asked answered → IsPaced seen asked steps told
       → WritesSteps answered told done → OnOk put (out' ≡ out ++ reply_text answered) → OnErr put (done ≤ told + refused_steps answered)
-      → IsWrittenPaced seen asked put out out' steps done
+      → TakesWritingSteps seen asked put out out' steps done
   written_paced (command.Path s t) answered h paced more written refused =
       takes_either _ put out out' steps told done paced answered (path_of_kept seen.state.version seen.state.kept s t answered h) more written refused
   written_paced (command.Tree s) answered h paced more written refused =
@@ -176,33 +176,10 @@ module _ {E : Type 0} (seen : Seen) (put : Result (Unit {0}) E) (out out' : List
   written_paced _ answered h paced more written refused = tt
 
   -- also where no reply was found
-  pub unwritten_paced : (asked : Command) → IsPaced seen asked steps told → done ≡ told → OnOk put ⊥ → IsWrittenPaced seen asked put out out' steps done
+  pub unwritten_paced : (asked : Command) → IsPaced seen asked steps told → done ≡ told → OnOk put ⊥ → TakesWritingSteps seen asked put out out' steps done
   unwritten_paced (command.Path s t) paced same fails = takes_none _ put out out' steps told done paced same fails
   unwritten_paced (command.Tree s) paced same fails = omega (arith, paced, same)
   unwritten_paced (command.Reach t) paced same fails = takes_none _ put out out' steps told done paced same fails
   unwritten_paced (command.Pair i j) paced same fails = takes_none _ put out out' steps told done paced same fails
   unwritten_paced command.Sights paced same fails = omega (arith, paced, same)
   unwritten_paced _ paced same fails = tt
-
--- ---- the clauses of a command of each kind
-
-module _ {E : Type 0} (seen : Seen) (asked : Command) (put : Result (Unit {0}) E) (out out' : List ℕ) (steps done : ℕ)
-    (paced : IsWrittenPaced seen asked put out out' steps done) where
-  pub path_clause : (s t : Point) → asked ≡ command.Path s t
-      → TakesEither (path_pace seen.state.version * size_of seen.state.kept) put out out' steps done
-  path_clause s t is = rw is at paced
-
-  pub tree_clause : (s : Point) → asked ≡ command.Tree s → let n = size_of seen.state.kept in let b = binary_digits n in
-      done ≤ steps + (3 * n + 200 * n * (b * b))
-  tree_clause s is = rw is at paced
-
-  pub reach_clause : (t : Point) → asked ≡ command.Reach t → let n = size_of seen.state.kept in let b = binary_digits n in
-      TakesEither (reach_pace seen.state.version * n + 24 * (b * b)) put out out' steps done
-  reach_clause t is = rw is at paced
-
-  pub pair_clause : (i j : ℤ) → asked ≡ command.Pair i j
-      → TakesEither (table_steps seen + pair_pace seen.state.version * size_of seen.state.kept) put out out' steps done
-  pair_clause i j is = rw is at paced
-
-  pub sights_clause : asked ≡ command.Sights → done ≤ steps + table_steps seen
-  sights_clause is = rw is at paced

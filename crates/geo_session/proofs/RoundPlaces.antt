@@ -22,7 +22,7 @@ use Rattle.geo_session.specs.Hull.{AreFirsts}
 use Rattle.geo_session.specs.Round.{AreRound}
 use Rattle.geo_session.specs.Span.{IsNumberedTable, IsSpan}
 use Rattle.geo_session.specs.Told.{RepliesWithin, Tells, within}
-use Rattle.geo_session.specs.declared.hull.Span.{Span}
+use Rattle.geo_session.specs.declared.span.Span.{Span}
 
 -- ---- its places
 

@@ -22,7 +22,7 @@ use Rattle.geo_session.proofs.LocatedIn.{held_in}
 use Rattle.geo_session.specs.Hull.{AreFirsts}
 use Rattle.geo_session.specs.Shown.{IsShownPath}
 use Rattle.geo_session.specs.Span.{AreChains, AreFirstsBelow, AreHeld, AreSidesTold, IsChainAt, IsRepeated, IsShortPath, IsSideTold, numbered}
-use Rattle.geo_session.specs.declared.hull.Span.{Span}
+use Rattle.geo_session.specs.declared.span.Span.{Span}
 
 -- what holds at each place of a list and at the next one holds at each place once that element is appended
 pub each_push : {X : Type 0} (P : ℕ → X → Type 0) (xs : List X) (x d : X) (n : ℕ) → length xs ≡ n → ((k : ℕ) → k < n → P k (get_or xs k d)) → P n x

@@ -1,5 +1,5 @@
--- What a command changes, and how its reply and its steps are known before anything is written. No public clause cites this module.
-use Rattle.std.specs.Prelude.{◌≡◌, ◌⊎◌, ℕ, ℤ, ◌+◌, ◌*◌, ◌≤◌, true, List, OnErr, OnOk, Option, None, Some, Result, Ok, Err}
+-- What a command changes, and how its reply is known before anything is written. No public clause cites this module.
+use Rattle.std.specs.Prelude.{◌≡◌, ◌⊎◌, ℕ, ℤ, true, List, Option, None, Some, Result, Ok, Err}
 use Rattle.plane.specs.Point.{Point}
 use Rattle.geo_text.specs.declared.command.Bad.{Bad}
 use Rattle.geo_text.specs.declared.command.Bad.TheVariants as bad
@@ -7,14 +7,11 @@ use Rattle.geo_text.specs.declared.command.Command.{Command}
 use Rattle.geo_text.specs.declared.command.Command.TheVariants as command
 use Rattle.geo_text.specs.declared.version.Version.{Version}
 use Rattle.geo_text.specs.declared.version.Version.TheVariants as version
-use Rattle.shared_seq.specs.Digits.{binary_digits}
 use Rattle.pair_cut.specs.Pairs.{IsMadeFor}
 use Rattle.geo_session.specs.Held.{HeldRing, IsTreeOf, kept_of, prepared_of}
-use Rattle.geo_session.specs.Paced.{TakesPathSteps, path_pace, reach_pace}
 use Rattle.geo_session.specs.Pairs.{IsIndex, IsSmall, IsVertexNumber}
-use Rattle.geo_session.specs.Prepared.{IsPreparedAfter, Seen, pair_pace, table_steps}
+use Rattle.geo_session.specs.Prepared.{IsPreparedAfter, Seen}
 use Rattle.geo_session.specs.Reply.{IsReply, state_after}
-use Rattle.geo_session.specs.State.{size_of}
 use Rattle.geo_session.specs.declared.ask.Asked.{Asked}
 use Rattle.geo_session.specs.declared.ask.Change.{Change}
 use Rattle.geo_session.specs.declared.ask.Change.TheVariants as change
@@ -51,13 +48,7 @@ pub record IsAskedOf (version : Version) (held : Option HeldRing) (asked : Comma
       ≡ state_after (record { version = version; kept = kept_of held }) asked answer.reply
   pub prepared : IsPreparedAfter (kept_of held) asked (prepared_of held) (prepared_of (held_after answer.change held))
 
--- the command asks of a polygon
-abbrev pub AsksPolygon : Command → Type 0
-AsksPolygon command.Two = ⊥
-AsksPolygon (command.Polygon ring) = ⊥
-AsksPolygon other = Unit {0}
-
--- and changes nothing
+-- the command asks of a polygon, and changes nothing
 abbrev pub IsPlain : Command → Type 0
 IsPlain command.Two = ⊥
 IsPlain (command.Polygon ring) = ⊥
@@ -72,21 +63,3 @@ AreAsked ring i j (Ok pair) = IsSmall ring × IsVertexNumber ring i pair.0 × Is
 AreAsked ring i j (Err fault) = ((¬ IsSmall ring) × (fault ≡ bad.Large))
     ⊎ (IsSmall ring × (¬ IsIndex ring i) × (fault ≡ bad.Index 1))
     ⊎ (IsSmall ring × IsIndex ring i × (¬ IsIndex ring j) × (fault ≡ bad.Index 2))
-
--- the bounds of a path: after Ok by what was appended, and after want of memory without any of its points
-abbrev pub TakesEither : {E : Type 0} → ℕ → Result (Unit {0}) E → List ℕ → List ℕ → ℕ → ℕ → Type 0
-TakesEither most put out out' steps steps' = OnOk put (TakesPathSteps most out out' steps steps') × OnErr put (steps' ≤ steps + most)
-
--- the steps of a command with its lines, by cases
-abbrev pub IsWrittenPaced : {E : Type 0} → Seen → Command → Result (Unit {0}) E → List ℕ → List ℕ → ℕ → ℕ → Type 0
-IsWrittenPaced seen (command.Path s t) put out out' steps steps' =
-    TakesEither (path_pace seen.state.version * size_of seen.state.kept) put out out' steps steps'
-IsWrittenPaced seen (command.Tree s) put out out' steps steps' =
-    let n = size_of seen.state.kept in let b = binary_digits n in steps' ≤ steps + (3 * n + 200 * n * (b * b))
-IsWrittenPaced seen (command.Reach t) put out out' steps steps' =
-    let n = size_of seen.state.kept in let b = binary_digits n in
-    TakesEither (reach_pace seen.state.version * n + 24 * (b * b)) put out out' steps steps'
-IsWrittenPaced seen (command.Pair i j) put out out' steps steps' =
-    TakesEither (table_steps seen + pair_pace seen.state.version * size_of seen.state.kept) put out out' steps steps'
-IsWrittenPaced seen command.Sights put out out' steps steps' = steps' ≤ steps + table_steps seen
-IsWrittenPaced seen other put out out' steps steps' = Unit {0}

@@ -1,5 +1,5 @@
 -- How many steps commands take. This project's own.
-use Rattle.std.specs.Prelude.{◌≡◌, ◌⊎◌, ℕ, ◌+◌, ◌*◌, ◌≤◌, List, [], ◌++◌, length}
+use Rattle.std.specs.Prelude.{◌≡◌, ◌⊎◌, ℕ, ◌+◌, ◌*◌, ◌≤◌, List, [], ◌++◌, length, OnErr, OnOk, Result}
 use Rattle.plane.specs.Point.{Point}
 use Rattle.geo_text.specs.Version.{by_version}
 use Rattle.geo_text.specs.declared.command.Command.{Command}
@@ -89,3 +89,16 @@ pub record TakesPathSteps (most : ℕ) (out out' : List ℕ) (steps steps' : ℕ
   pub points : List Point
   pub printed : (out' ≡ out ++ path_text points) ⊎ (points ≡ [])
   pub bound : steps' ≤ steps + most + 64 * length points
+
+-- so they are after Ok, and after want of memory without any of the points
+abbrev pub TakesPathStepsOrNone : {E : Type 0} → ℕ → Result (Unit {0}) E → List ℕ → List ℕ → ℕ → ℕ → Type 0
+TakesPathStepsOrNone most put out out' steps steps' = OnOk put (TakesPathSteps most out out' steps steps') × OnErr put (steps' ≤ steps + most)
+
+-- the steps of a command and of its lines, by what was appended; those of other commands are bounded by `TakesSteps` alone
+abbrev pub TakesWritingSteps : {E : Type 0} → Seen → Command → Result (Unit {0}) E → List ℕ → List ℕ → ℕ → ℕ → Type 0
+TakesWritingSteps seen (command.Path s t) put out out' steps steps' = TakesPathStepsOrNone (most_steps seen (command.Path s t)) put out out' steps steps'
+TakesWritingSteps seen (command.Reach t) put out out' steps steps' = TakesPathStepsOrNone (most_steps seen (command.Reach t)) put out out' steps steps'
+TakesWritingSteps seen (command.Pair i j) put out out' steps steps' = TakesPathStepsOrNone (most_steps seen (command.Pair i j)) put out out' steps steps'
+TakesWritingSteps seen (command.Tree s) put out out' steps steps' = IsPaced seen (command.Tree s) steps steps'
+TakesWritingSteps seen command.Sights put out out' steps steps' = IsPaced seen command.Sights steps steps'
+TakesWritingSteps seen other put out out' steps steps' = Unit {0}

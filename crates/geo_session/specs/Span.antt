@@ -15,7 +15,7 @@ use Rattle.rel_hull.specs.Table.{Table, chain_at}
 use Rattle.geo_session.specs.Hull.{AreFirsts, hull_side_at}
 use Rattle.geo_session.specs.Shown.{IsShown}
 use Rattle.geo_session.specs.Told.{NamesOutside}
-use Rattle.geo_session.specs.declared.hull.Span.{Span}
+use Rattle.geo_session.specs.declared.span.Span.{Span}
 use Rattle.geo_reply.specs.declared.reply.Side.{Side}
 
 -- an earlier point is equal to point i

@@ -3,7 +3,7 @@ ghost use Rattle.std.specs.Prelude.{◌≡◌, ◌+◌, ◌≤◌, IfOk, Option,
 ghost use Rattle.plane.specs.declared.limits.TheConstants.{MAX_CORNERS};
 ghost use Rattle.geo_text.specs.Reading.{IsWellSized};
 ghost use Rattle.geo_text.specs.Version.{version_of};
-ghost use Rattle.geo_session.specs.Asking.{AsksPolygon, IsAskedOf, IsPlain, Suits, held_after, seen_of, version_after};
+ghost use Rattle.geo_session.specs.Asking.{IsAskedOf, IsPlain, Suits, held_after, seen_of, version_after};
 ghost use Rattle.geo_session.specs.Held.{HeldRing, kept_in};
 ghost use Rattle.geo_session.specs.Paced.{IsPaced, polygon_steps};
 ghost use Rattle.geo_session.specs.Reply.{IsReplyIn};
@@ -52,16 +52,47 @@ pub(crate) fn ask<L: Ledger>(
     ensures asked { IfOk result (IsAskedOf version held.now command) }
     ensures paced { IsPaced (seen_of version held.now) command steps.old steps.new }
 {
-    match command {
-        Command::Two => Ok(Asked {
-            reply: Reply::Number(Word::Two, 2),
-            change: Change::Two,
-        }),
-        Command::Polygon(points) => ask_polygon(alloc, points, steps),
-        asked => match held {
-            Some(held) => held.ask(alloc, version, asked, steps),
-            None => Ok(unchanged(Reply::Refused(Bad::NoPolygon))),
-        },
+    match (held, command) {
+        (_, Command::Two) => Ok(begun()),
+        (_, Command::Polygon(points)) => ask_polygon(alloc, points, steps),
+        (None, _) => Ok(unchanged(Reply::Refused(Bad::NoPolygon))),
+        (Some(held), Command::Tree(s)) => held.tree(alloc, &s, steps),
+        (Some(held), Command::Pair(i, j)) => held.pair(alloc, version, i, j, steps),
+        (Some(held), Command::Sights) => held.sights(alloc, steps),
+        (Some(held), Command::Inside(p)) => Ok(unchanged(Reply::Place(held.place(&p, steps)))),
+        (Some(held), Command::Check(points)) => told(held.judge(alloc, points.as_slice(), steps)),
+        (Some(held), Command::Path(s, t)) => told(path_reply(held.path(
+            alloc, version, &s, &t, steps,
+        ))),
+        (Some(held), Command::Reach(t)) => told(path_reply(held.reach(alloc, version, &t, steps))),
+        (Some(held), Command::See(q)) => told(held.view(alloc, &q, steps)),
+        (Some(held), Command::Kernel) => told(held.kernel(alloc, steps)),
+        (Some(held), Command::Hull(points)) => {
+            told(held.hull(alloc, version, points.as_slice(), steps))
+        }
+        (Some(held), Command::Round(points)) => told(held.round(alloc, points.as_slice(), steps)),
+        (Some(held), Command::Guards) => told(held.guards(alloc, steps)),
+    }
+}
+
+// Version 2 begins, with no polygon.
+fn begun() -> Asked
+    ensures { result ≡ record { reply = Reply.Number Word.Two 2; change = Change.Two } }
+{
+    Asked {
+        reply: Reply::Number(Word::Two, 2),
+        change: Change::Two,
+    }
+}
+
+// The reply of a command that changes nothing.
+fn told(reply: Result<Reply, Memory>) -> Result<Asked, Memory>
+    ensures { (version : Version) → (held : HeldRing) → (asked : Command) → IsPlain asked → IfOk reply (IsReplyIn version (kept_in held) asked)
+        → IfOk result (IsAskedOf version (Some held) asked) }
+{
+    match reply {
+        Ok(reply) => Ok(unchanged(reply)),
+        Err(memory) => Err(memory),
     }
 }
 
@@ -92,65 +123,6 @@ pub(crate) fn unchanged(reply: Reply) -> Asked
     Asked {
         reply,
         change: Change::Nothing,
-    }
-}
-
-impl Held {
-    // What a command is answered that asks of a polygon.
-    fn ask<L: Ledger>(
-        &self,
-        alloc: Global,
-        version: Version,
-        command: Command,
-        steps: &mut Steps<L>,
-    ) -> Result<Asked, Memory>
-        requires sized { IsWellSized command }
-        requires asks { AsksPolygon command }
-        ensures asked { IfOk result (IsAskedOf version (Some self.now) command) }
-        ensures paced { IsPaced (seen_of version (Some self.now)) command steps.old steps.new }
-    {
-        match command {
-            Command::Two | Command::Polygon(_) => unreachable!(),
-            Command::Tree(s) => self.tree(alloc, &s, steps),
-            Command::Pair(i, j) => self.pair(alloc, version, i, j, steps),
-            Command::Sights => self.sights(alloc, steps),
-            asked => Ok(unchanged(self.tell(alloc, version, asked, steps)?)),
-        }
-    }
-
-    // What a command is answered that changes nothing.
-    fn tell<L: Ledger>(
-        &self,
-        alloc: Global,
-        version: Version,
-        command: Command,
-        steps: &mut Steps<L>,
-    ) -> Result<Reply, Memory>
-        requires sized { IsWellSized command }
-        requires plain { IsPlain command }
-        ensures reply { IfOk result (IsReplyIn version (kept_in self.now) command) }
-        ensures paced { IsPaced (seen_of version (Some self.now)) command steps.old steps.new }
-    {
-        match command {
-            Command::Two
-            | Command::Polygon(_)
-            | Command::Tree(_)
-            | Command::Pair(_, _)
-            | Command::Sights => unreachable!(),
-            Command::Inside(point) => Ok(Reply::Place(self.place(&point, steps))),
-            Command::Check(points) => Ok(Reply::Verdict(self.judge(
-                alloc,
-                points.as_slice(),
-                steps,
-            )?)),
-            Command::Path(s, t) => Ok(path_reply(self.path(alloc, version, &s, &t, steps)?)),
-            Command::Reach(t) => Ok(path_reply(self.reach(alloc, version, &t, steps)?)),
-            Command::See(q) => self.view(alloc, &q, steps),
-            Command::Kernel => self.kernel(alloc, steps),
-            Command::Hull(points) => self.hull(alloc, version, points.as_slice(), steps),
-            Command::Round(points) => self.round(alloc, points.as_slice(), steps),
-            Command::Guards => self.guards(alloc, steps),
-        }
     }
 }
 

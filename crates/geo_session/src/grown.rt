@@ -36,6 +36,13 @@ pub(crate) struct Grown {
     tree: PathTree,
 }
 
+// A point of a polygon, and the least triangle that holds it.
+#[derive(Clone, Copy)]
+pub(crate) struct Located {
+    pub(crate) point: Pt,
+    pub(crate) tri: u32,
+}
+
 impl Grown {
     // The tree of a point in triangle `home`.
     fn of<L: Ledger>(
@@ -83,41 +90,40 @@ impl Grown {
         let _ring_is_simple = ring.len();
         match self.tree.parent(ring.given_index(i)) {
             Some(Spot::Corner(c)) => Before::Vertex(ring.given_index(c)),
-            Some(Spot::Start) => Before::Source,
-            Some(Spot::Goal) => unreachable!(),
+            // The start, since no path goes on past its goal.
+            Some(_) => Before::Source,
             None => Before::Nothing,
         }
     }
 
-    // The path from the source to a point in triangle `tri`. It takes all its memory first.
+    // The path from the source to a point. It takes all its memory first.
     pub(crate) fn chain_to<L: Ledger>(
         &self,
         alloc: Global,
         ring: &Ring,
         mesh: &Mesh,
-        tri: u32,
-        goal: &Pt,
+        goal: Located,
         steps: &mut Steps<L>,
     ) -> Result<Vec<Pt>, Memory>
         requires fits { Fits ring.now.corners mesh.now }
         requires grown { IsTreeOf ring.now.corners mesh.now self.now }
-        requires goal { IsLeastHolding ring.now.corners mesh.now (whole goal.now) tri }
-        ensures path { IfOk result (λ points. IsPath ring.now.corners self.now.source goal.now points.items) }
+        requires goal { IsLeastHolding ring.now.corners mesh.now (whole goal.point) goal.tri }
+        ensures path { IfOk result (λ points. IsPath ring.now.corners self.now.source goal.point points.items) }
         ensures few { IfOk result (λ points. length points.items ≤ MAX_CORNERS + 3) }
         ensures steps { let b = binary_digits (length ring.now.corners) in steps.new ≤ steps.old + 24 * (b * b) }
     {
         let count = ring.len() as usize;
         let mut names = Vec::with_capacity(alloc, count + 2)?;
         let mut points = Vec::with_capacity(alloc, count + 3)?;
-        let board = Board::new(ring, self.source, *goal);
-        let Some(last) = self.tree.reach(&board, mesh, tri, steps) else {
+        let board = Board::new(ring, self.source, goal.point);
+        let Some(last) = self.tree.reach(&board, mesh, goal.tri, steps) else {
             points.push_reserved(self.source);
             return Ok(points);
         };
         self.tree.chain_into(last, &mut names);
         let on_the_way = Board::new(ring, self.source, self.source);
         put_points(&mut points, &names, &on_the_way);
-        points.push_reserved(*goal);
+        points.push_reserved(goal.point);
         Ok(points)
     }
 }

@@ -5,14 +5,14 @@ ghost use Rattle.meshes.specs.Fits.{Fits};
 ghost use Rattle.ring_check.specs.Oriented.{given_of};
 ghost use Rattle.pair_cut.specs.Pairs.{IsMadeFor};
 ghost use Rattle.geo_session.specs.Guards.{GuardRing};
-ghost use Rattle.geo_session.specs.Held.{IsLocated, IsTreeOf, IsViewReply};
+ghost use Rattle.geo_session.specs.Held.{IsTreeOf, IsViewReply};
 ghost use Rattle.geo_session.specs.Paced.{guards_steps, inside_steps, kernel_steps, mesh_steps, view_steps};
 ghost use Rattle.geo_session.specs.Place.{IsPlace};
 ghost use Rattle.geo_session.specs.Told.{Tells};
 
 use crate::grown::Grown;
 use crate::parts::given_parts;
-use dual_tree::{Board, locate};
+use dual_tree::Board;
 use exact_plane::{Memory, Pt, Steps};
 use flip_tri::cut_triangles;
 use geo_reply::{Reply, Row};
@@ -83,22 +83,6 @@ impl Held {
         ensures { self.new ≡ record { ring = self.old.ring; tris = self.old.tris; source = self.old.source; prepared = true } }
     {
         self.pairs = Some(table);
-    }
-
-    // The triangle of a point, or the refusal where it is not in the polygon, by its number among the points that are asked for.
-    pub(crate) fn find<L: Ledger>(
-        &self,
-        number: u32,
-        point: &Pt,
-        steps: &mut Steps<L>,
-    ) -> Result<u32, Bad>
-        ensures found { IsLocated self.now number point.now result }
-        ensures steps { steps.new ≤ steps.old + 3 * (length self.now.ring.corners - 2) }
-    {
-        match locate(&self.mesh, &self.ring, point, steps) {
-            Some(tri) => Ok(tri),
-            None => Err(Bad::Outside(number)),
-        }
     }
 
     // Where a point is.

@@ -10,6 +10,7 @@ mod pairs;
 mod parts;
 mod paths;
 mod session;
+mod span;
 mod verdict;
 
 pub use laws::{one_answer, one_output, one_reply};

@@ -1,6 +1,5 @@
 // Paths between points of the polygon, and the vertices that they touch.
 ghost use Rattle.std.specs.Prelude.{◌≡◌, ◌+◌, ◌-◌, ◌*◌, ◌≤◌, ◌<◌, ◌^◌, ◌++◌, IfOk, OnErr, length, vec_capacity};
-ghost use Rattle.plane.specs.Point.{whole};
 ghost use Rattle.plane.specs.declared.limits.TheConstants.{MAX_CORNERS};
 ghost use Rattle.rings.specs.Chain.{IsPath};
 ghost use Rattle.rings.specs.Full.{IsFull};
@@ -8,24 +7,43 @@ ghost use Rattle.shared_seq.specs.Digits.{binary_digits};
 ghost use Rattle.geo_text.specs.Version.{by_version};
 ghost use Rattle.ring_check.specs.Oriented.{given_of};
 ghost use Rattle.exact_plane.specs.Spot.{point_named};
-ghost use Rattle.dual_tree.specs.Location.{IsLeastHolding};
 ghost use Rattle.exact_plane.specs.Names.{AreNamed, named_points};
+ghost use Rattle.geo_session.specs.Held.{IsLocated};
 ghost use Rattle.geo_session.specs.Path.{IsPathReply, IsReachReply, path_of};
-ghost use Rattle.geo_session.specs.Shown.{IsShown, IsShownPath};
+ghost use Rattle.geo_session.specs.Reply.{IsReplyIn};
+ghost use Rattle.geo_session.specs.Shown.{IsShown};
 ghost use Rattle.geo_session.specs.Sleeves.{IsPathAlong, IsPathBetween, Leads};
+ghost use Rattle.geo_session.specs.State.{Kept};
 ghost use Rattle.geo_session.specs.Told.{reply_of};
 
+use crate::grown::Located;
 use crate::held::Held;
-use dual_tree::{Board, sleeve, touched};
+use dual_tree::{Board, locate, sleeve, touched};
 use exact_plane::{Memory, Pt, Spot, Steps, Turns};
 use funnel_walk::{FunnelBox, walk};
 use geo_reply::{Reply, Row};
-use geo_text::{Bad, Version};
+use geo_text::{Bad, Command, Version};
 use std::alloc::Global;
 use std::sync::ledger::Ledger;
 use tri_mesh::Sleeve;
 
 impl Held {
+    // The triangle of a point, or the refusal where it is not in the polygon, by its number among the points that are asked for.
+    pub(crate) fn find<L: Ledger>(
+        &self,
+        number: u32,
+        point: &Pt,
+        steps: &mut Steps<L>,
+    ) -> Result<u32, Bad>
+        ensures found { IsLocated self.now number point.now result }
+        ensures steps { steps.new ≤ steps.old + 3 * (length self.now.ring.corners - 2) }
+    {
+        match locate(&self.mesh, &self.ring, point, steps) {
+            Some(tri) => Ok(tri),
+            None => Err(Bad::Outside(number)),
+        }
+    }
+
     // What is told of the taut chain from one point to another. In version 1 all memory is taken before the walk.
     pub(crate) fn path<L: Ledger>(
         &self,
@@ -48,8 +66,15 @@ impl Held {
             Ok(to) => to,
             Err(bad) => return Ok(Err(bad)),
         };
-        let points = self.path_between(alloc, version, (from, to), s, t, steps)?;
-        Ok(Ok(points))
+        let sleeve = sleeve(alloc, &self.mesh, from, to)?;
+        let chain = self.chain_along(alloc, &sleeve, s, t, steps)?;
+        match version {
+            Version::One => Ok(Ok(chain)),
+            Version::Two => {
+                let full = self.full_along(alloc, &sleeve, &chain, steps)?;
+                Ok(Ok(full))
+            }
+        }
     }
 
     // What is told of the taut chain from the source of the tree to a point.
@@ -72,34 +97,10 @@ impl Held {
             Ok(tri) => tri,
             Err(bad) => return Ok(Err(bad)),
         };
-        let chain = grown.chain_to(alloc, &self.ring, &self.mesh, tri, t, steps)?;
+        let goal = Located { point: *t, tri };
+        let chain = grown.chain_to(alloc, &self.ring, &self.mesh, goal, steps)?;
         let points = self.shown(alloc, version, (grown.home, tri), chain, steps)?;
         Ok(Ok(points))
-    }
-
-    // What is told of the taut chain from a point in one triangle to a point in another.
-    pub(crate) fn path_between<L: Ledger>(
-        &self,
-        alloc: Global,
-        version: Version,
-        tris: (u32, u32),
-        s: &Pt,
-        t: &Pt,
-        steps: &mut Steps<L>,
-    ) -> Result<Vec<Pt>, Memory>
-        requires from { IsLeastHolding self.now.ring.corners self.now.tris (whole s.now) tris.0 }
-        requires to { IsLeastHolding self.now.ring.corners self.now.tris (whole t.now) tris.1 }
-        ensures shown { IfOk result (λ points. IsShownPath version self.now.ring.corners s.now t.now points.items) }
-        ensures few { IfOk result (λ points. length points.items ≤ MAX_CORNERS + by_version version 1 2) }
-        ensures steps { steps.new ≤ steps.old + by_version version 4 24 * length self.now.ring.corners }
-        ensures memory { version ≡ Version.One → OnErr result (steps.new ≡ steps.old) }
-    {
-        let sleeve = sleeve(alloc, &self.mesh, tris.0, tris.1)?;
-        let chain = self.chain_along(alloc, &sleeve, s, t, steps)?;
-        match version {
-            Version::One => Ok(chain),
-            Version::Two => self.full_along(alloc, &sleeve, &chain, steps),
-        }
     }
 
     // What is told of a taut chain from a point in one triangle to a point in another.
@@ -182,13 +183,15 @@ pub(crate) fn put_points<'a>(points: &mut Vec<Pt>, names: &[Spot], board: &Board
     }
 }
 
-// What is told of a path, or the refusal.
-pub(crate) fn path_reply(found: Result<Vec<Pt>, Bad>) -> Reply
-    requires { IfOk found (λ points. length points.items < 2 ^ 32) }
-    ensures { result ≡ reply_of path_of found }
+// What is told of a path, or the refusal, as a reply.
+pub(crate) fn path_reply(found: Result<Result<Vec<Pt>, Bad>, Memory>) -> Result<Reply, Memory>
+    requires { IfOk found (λ told. IfOk told (λ points. length points.items < 2 ^ 32)) }
+    ensures { (version : Version) → (kept : Kept) → (asked : Command) → IfOk found (λ told. IsReplyIn version kept asked (reply_of path_of told))
+        → IfOk result (IsReplyIn version kept asked) }
 {
     match found {
-        Ok(points) => Reply::Path(Row::of(points)),
-        Err(bad) => Reply::Refused(bad),
+        Ok(Ok(points)) => Ok(Reply::Path(Row::of(points))),
+        Ok(Err(bad)) => Ok(Reply::Refused(bad)),
+        Err(memory) => Err(memory),
     }
 }

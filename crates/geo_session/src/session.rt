@@ -1,15 +1,13 @@
 // What a run holds between two records.
-ghost use Rattle.std.specs.Prelude.{◌≡◌, ◌+◌, ◌-◌, ◌*◌, ◌≤◌, ℤ, length, IfOk, OnOk, OnErr};
-ghost use Rattle.plane.specs.Point.{Point};
+ghost use Rattle.std.specs.Prelude.{◌≡◌, ◌+◌, ◌-◌, ◌*◌, ◌≤◌, length, IfOk, OnOk, OnErr};
 ghost use Rattle.plane.specs.declared.limits.TheConstants.{MAX_CORNERS};
 ghost use Rattle.geo_text.specs.Reading.{IsWellSized};
 ghost use Rattle.geo_text.specs.Version.{by_version};
 ghost use Rattle.shared_seq.specs.Digits.{binary_digits};
 ghost use Rattle.geo_session.specs.Answer.{AppendsAnswer};
-ghost use Rattle.geo_session.specs.Asking.{IsWrittenPaced};
-ghost use Rattle.geo_session.specs.Paced.{IsPaced, TakesPathSteps, TakesSteps, inside_steps, path_pace, reach_pace};
+ghost use Rattle.geo_session.specs.Paced.{IsPaced, TakesSteps, TakesWritingSteps, inside_steps};
 ghost use Rattle.geo_session.specs.Path.{path_of};
-ghost use Rattle.geo_session.specs.Prepared.{IsPreparedAfter, first_seen, pair_pace, table_steps};
+ghost use Rattle.geo_session.specs.Prepared.{IsPreparedAfter, first_seen};
 ghost use Rattle.geo_session.specs.Reply.{IsFound, IsReply, state_after};
 ghost use Rattle.geo_session.specs.State.{size_of};
 
@@ -162,42 +160,8 @@ impl Session {
         ensures prepared { OnOk result (IsPreparedAfter self.old.state.kept command self.old.prepared self.new.prepared) }
         ensures same_session { OnErr result (self.new ≡ self.old) }
         ensures same_out { OnErr result (out.new.items ≡ out.old.items) }
-        ensures path_steps { (s t : Point) → command ≡ Command.Path s t
-            → OnOk result (TakesPathSteps (path_pace self.old.state.version * size_of self.old.state.kept) out.old.items out.new.items steps.old steps.new) }
-        ensures path_memory { (s t : Point) → command ≡ Command.Path s t
-            → OnErr result (steps.new ≤ steps.old + path_pace self.old.state.version * size_of self.old.state.kept) }
-        ensures tree_steps { (s : Point) → command ≡ Command.Tree s → let n = size_of self.old.state.kept in let b = binary_digits n in
-            steps.new ≤ steps.old + (3 * n + 200 * n * (b * b)) }
-        ensures reach_steps { (t : Point) → command ≡ Command.Reach t → let n = size_of self.old.state.kept in let b = binary_digits n in
-            OnOk result (TakesPathSteps (reach_pace self.old.state.version * n + 24 * (b * b)) out.old.items out.new.items steps.old steps.new) }
-        ensures reach_memory { (t : Point) → command ≡ Command.Reach t → let n = size_of self.old.state.kept in let b = binary_digits n in
-            OnErr result (steps.new ≤ steps.old + (reach_pace self.old.state.version * n + 24 * (b * b))) }
-        ensures pair_steps { (i j : ℤ) → command ≡ Command.Pair i j → let n = size_of self.old.state.kept in
-            OnOk result (TakesPathSteps (table_steps self.old + pair_pace self.old.state.version * n) out.old.items out.new.items steps.old steps.new) }
-        ensures pair_memory { (i j : ℤ) → command ≡ Command.Pair i j → let n = size_of self.old.state.kept in
-            OnErr result (steps.new ≤ steps.old + (table_steps self.old + pair_pace self.old.state.version * n)) }
-        ensures sights_steps { command ≡ Command.Sights → steps.new ≤ steps.old + table_steps self.old }
-
+        ensures steps { TakesWritingSteps self.old command result out.old.items out.new.items steps.old steps.new }
         // Also where memory is refused.
-        ensures within { TakesSteps self.old command steps.old steps.new }
-    {
-        self.put_answer(alloc, command, out, steps)
-    }
-
-    // The same, with the bounds on steps as one clause.
-    fn put_answer<L: Ledger>(
-        &mut self,
-        alloc: Global,
-        command: Command,
-        out: &mut Vec<u8>,
-        steps: &mut Steps<L>,
-    ) -> Result<(), Memory>
-        requires { IsWellSized command }
-        ensures ok { OnOk result (AppendsAnswer self.old.state command out.old.items out.new.items self.new.state) }
-        ensures prepared { OnOk result (IsPreparedAfter self.old.state.kept command self.old.prepared self.new.prepared) }
-        ensures same_session { OnErr result (self.new ≡ self.old) }
-        ensures same_out { OnErr result (out.new.items ≡ out.old.items) }
-        ensures paced { IsWrittenPaced self.old command result out.old.items out.new.items steps.old steps.new }
         ensures within { TakesSteps self.old command steps.old steps.new }
     {
         let asked = ask(alloc, self.version(), &self.held, command, steps)?;

@@ -9,15 +9,17 @@ ghost use Rattle.ring_check.specs.Oriented.{given_of};
 ghost use Rattle.taut_check.specs.Sound.{AreSoundBefore};
 ghost use Rattle.taut_check.specs.Verdict.{IsVerdict};
 ghost use Rattle.geo_session.specs.Paced.{check_steps};
+ghost use Rattle.geo_session.specs.Told.{Tells};
 
 use crate::held::Held;
 use dual_tree::{locate, sleeve};
 use exact_plane::{Memory, Pt, Steps, order};
+use geo_reply::Reply;
 use inside_test::holds_segment_within;
 use std::alloc::Global;
 use std::cmp::Ordering;
 use std::sync::ledger::Ledger;
-use taut_check::{Sight, Verdict, check_from};
+use taut_check::{Sight, check_from};
 
 // A segment that meets the edges at more points, its ends among them, is not placed between them: a walk tells sooner.
 const FEW: usize = 3;
@@ -30,9 +32,9 @@ impl Held {
         alloc: Global,
         points: &[Pt],
         steps: &mut Steps<L>,
-    ) -> Result<Verdict, Memory>
+    ) -> Result<Reply, Memory>
         requires { length points.now ≤ MAX_CHAIN }
-        ensures verdict { IfOk result (IsVerdict (given_of self.now.ring) points.now) }
+        ensures verdict { IfOk result (Tells Reply.Verdict (IsVerdict (given_of self.now.ring) points.now)) }
         ensures steps { steps.new ≤ steps.old + check_steps (length self.now.ring.corners) (length points.now) }
     {
         let taut = if self.is_path(alloc, points, steps)? {
@@ -40,14 +42,15 @@ impl Held {
         } else {
             self.taut_part(alloc, points, steps)?
         };
-        check_from(
+        let verdict = check_from(
             alloc,
             &self.ring,
             self,
             points,
             taut.saturating_sub(1),
             steps,
-        )
+        )?;
+        Ok(Reply::Verdict(verdict))
     }
 
     // How many points, from the first on, a search by halves finds to keep every rule up to the last. A part that follows on two of these

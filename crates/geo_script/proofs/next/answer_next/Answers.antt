@@ -1,4 +1,4 @@
-use Rattle.geo_script.specs.ScriptSteps.{some}
+use Rattle.geo_script.specs.RecordSteps.{some}
 use Rattle.geo_script.proofs.next.answer_next.Goals as goal
 
 pub returns-in_err-answer-clause-paced : goal.returns-in_err-answer-clause-paced

@@ -9,9 +9,9 @@ use Rattle.geo_reply.proofs.Fronts.{none_of_err, no_more}
 pub returns-in_default-clause-path : goal.returns-in_default-clause-path
 returns-in_default-clause-path g c =
     let same = sym c.new-board.ensures.goal ∙ c.in_default.ensures.before ∙ c.new-board.ensures.start in
-    let within = held_in c.args.ring.now.corners c.args.goal.now c.args.mesh.now c.args.tri c.requires.fits c.requires.goal in
+    let within = held_in c.args.ring.now.corners c.args.goal.point c.args.mesh.now c.args.goal.tri c.requires.fits c.requires.goal in
     rw (c.push_reserved.ensures.items, c.in_ok-points.ensures.items)
-    (alone_path c.args.ring.now.corners c.args.self.now.source c.args.goal.now same within)
+    (alone_path c.args.ring.now.corners c.args.self.now.source c.args.goal.point same within)
 
 pub put_points-requires-clause-named : goal.put_points-requires-clause-named
 put_points-requires-clause-named g c =
@@ -20,10 +20,10 @@ put_points-requires-clause-named g c =
 
 pub returns-clause-path : goal.returns-clause-path
 returns-clause-path g c =
-    let before = is_before c.args.ring.now.corners _ c.args.self.now.source _ c.args.goal.now _ c.in-Some.last
+    let before = is_before c.args.ring.now.corners _ c.args.self.now.source _ c.args.goal.point _ c.in-Some.last
     c.new-board.ensures.corners c.new-board.ensures.start c.new-board.ensures.goal c.in-Some.ensures.before in
     let on = c.chain_into.ensures.on c.args.ring.now.corners c.args.self.now.source c.args.mesh.now c.requires.fits c.requires.grown.tree
-    c.args.goal.now before in
+    c.args.goal.point before in
     rw (
       c.push_reserved-2.ensures.items,
       c.put_points.ensures.points,
