@@ -1,4 +1,4 @@
--- How far a walk has come: the names that were given, and those of the funnel. No public clause cites this module.
+-- How far a walk has come: the names that were given, and those of the funnel. This project's own.
 use Rattle.std.specs.List.{All}
 use Rattle.std.specs.Prelude.{◌≡◌, ◌≢◌, ℕ, ◌+◌, ◌<◌, List, [], ◌∷◌, ◌++◌, drop, length, slice_index_or}
 use Rattle.plane.specs.Point.{Point, whole}
@@ -30,8 +30,8 @@ pub record IsWalked (corners : List Point) (start goal : Point) (given names : L
   pub starts : name_at (given ++ name_at names a ∷ []) 0 ≡ Start
 
 -- the walk has come to the funnel, and the names from the first one that was given for it on are those before the apex
-abbrev pub HasCome : List Point → Point → Point → Sleeve → List Spot → Funnel → Type 0
-HasCome corners start goal sleeve out funnel = IsWalked corners start goal (drop funnel.given out) funnel.names.items funnel.apex
+abbrev pub IsWalkedTo : List Point → Point → Point → Sleeve → List Spot → Funnel → Type 0
+IsWalkedTo corners start goal sleeve out funnel = IsWalked corners start goal (drop funnel.given out) funnel.names.items funnel.apex
     (diagonal_at sleeve funnel.at).left (diagonal_at sleeve funnel.at).right
 
 -- triangles that fit the corners have the sleeve

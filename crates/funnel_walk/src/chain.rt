@@ -10,7 +10,7 @@ ghost use Rattle.exact_plane.specs.declared.turns.Spot.TheVariants.{Goal};
 ghost use Rattle.exact_plane.specs.Names.{AppendsNames, AreNamed, name_at};
 ghost use Rattle.exact_plane.specs.Spot.{point_named};
 ghost use Rattle.funnel_walk.specs.Names.{IsOwnName, right_names};
-ghost use Rattle.funnel_walk.specs.Walked.{AppendsTaut, HasArrived, HasCome, IsSleeveIn, IsWalked};
+ghost use Rattle.funnel_walk.specs.Walked.{AppendsTaut, HasArrived, IsSleeveIn, IsWalked, IsWalkedTo};
 
 use crate::funnel::{Funnel, name_at, narrow_left, narrow_right, place_from_right};
 use crate::room::FunnelBox;
@@ -135,10 +135,10 @@ impl Funnel {
         requires forward { self.old.at ≤ to }
         requires within { to < length sleeve.now.diagonals }
         requires given { self.old.given ≤ length out.old.items }
-        requires walked { HasCome (T.corners board.now) (T.start board.now) (T.goal board.now) sleeve.now out.old.items self.old }
+        requires walked { IsWalkedTo (T.corners board.now) (T.start board.now) (T.goal board.now) sleeve.now out.old.items self.old }
         requires room { length out.old.items + length self.old.names.items + to ≤ self.old.names.capacity + self.old.given + self.old.at }
         requires out_room { length out.old.items + length self.old.names.items + to ≤ vec_capacity out.old + self.old.at }
-        ensures walked { HasCome (T.corners board.now) (T.start board.now) (T.goal board.now) sleeve.now out.new.items self.new }
+        ensures walked { IsWalkedTo (T.corners board.now) (T.start board.now) (T.goal board.now) sleeve.now out.new.items self.new }
         ensures at { self.new.at ≡ to }
         ensures same_given { self.new.given ≡ self.old.given }
         ensures before { take self.old.given out.new.items ≡ take self.old.given out.old.items }
@@ -164,10 +164,10 @@ impl Funnel {
         requires sleeve { IsSleeveIn (T.corners board.now) sleeve.now }
         requires within { self.old.at + 1 < length sleeve.now.diagonals }
         requires given { self.old.given ≤ length out.old.items }
-        requires walked { HasCome (T.corners board.now) (T.start board.now) (T.goal board.now) sleeve.now out.old.items self.old }
+        requires walked { IsWalkedTo (T.corners board.now) (T.start board.now) (T.goal board.now) sleeve.now out.old.items self.old }
         requires room { length self.old.names.items < self.old.names.capacity }
         requires out_room { length out.old.items + length self.old.names.items ≤ vec_capacity out.old }
-        ensures walked { HasCome (T.corners board.now) (T.start board.now) (T.goal board.now) sleeve.now out.new.items self.new }
+        ensures walked { IsWalkedTo (T.corners board.now) (T.start board.now) (T.goal board.now) sleeve.now out.new.items self.new }
         ensures at { self.new.at ≡ self.old.at + 1 }
         ensures same_given { self.new.given ≡ self.old.given }
         ensures before { take self.old.given out.new.items ≡ take self.old.given out.old.items }

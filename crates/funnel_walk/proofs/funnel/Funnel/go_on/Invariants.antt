@@ -1,10 +1,10 @@
 use Rattle.std.proofs.Common.{◌≡◌, ◌+◌, ◌-◌, ◌*◌, ◌≤◌, length, take, vec_capacity}
 use Rattle.funnel_walk.proofs.funnel.Funnel.go_on.Given as goal
-use Rattle.funnel_walk.specs.Walked.{HasCome}
+use Rattle.funnel_walk.specs.Walked.{IsWalkedTo}
 
 abbrev pub invariant-loop-self : goal.invariant-loop-self
 invariant-loop-self g l = record {
-  walked : HasCome (g.T.Turns.corners l.board) (g.T.Turns.start l.board) (g.T.Turns.goal l.board) l.sleeve l.out.items l.self;
+  walked : IsWalkedTo (g.T.Turns.corners l.board) (g.T.Turns.start l.board) (g.T.Turns.goal l.board) l.sleeve l.out.items l.self;
   forward : l.fn.self.at ≤ l.self.at;
   within : l.self.at ≤ l.to;
   same_given : l.self.given ≡ l.fn.self.given;
