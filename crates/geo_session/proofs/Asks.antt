@@ -18,7 +18,7 @@ use Rattle.geo_reply.specs.declared.reply.Before.{Before}
 use Rattle.geo_reply.specs.declared.reply.Reply.{Reply}
 use Rattle.geo_reply.specs.declared.reply.Reply.TheVariants as reply
 use Rattle.geo_session.proofs.Within.{one_in, one_out}
-use Rattle.geo_session.specs.Asking.{AreAsked, AsksPolygon, IsAskedOf, IsPlain}
+use Rattle.geo_session.specs.Asking.{AreAsked, IsAskedOf, IsPlain}
 use Rattle.geo_session.specs.Held.{HeldRing, IsTreeOf, kept_in}
 use Rattle.geo_session.specs.Pairs.{IsPairReply, IsSmall, first_off, joined, second_off, too_large, too_many}
 use Rattle.geo_session.specs.Path.{TellsPath}
@@ -38,19 +38,6 @@ still answered = record { reply = answered; change = change.Nothing }
 -- version 2 is begun
 pub begun : (version : Version) (held : Option HeldRing) → IsAskedOf version held command.Two (record { reply = reply.Number word.Two 2; change = change.Two })
 begun version held = record { is_reply = refl; suits = tt; state = refl; prepared = refl }
-
--- where there is no polygon, what asks of one is refused
-pub refused : (version : Version) (asked : Command) → AsksPolygon asked → IsAskedOf version None asked (still (reply.Refused bad.NoPolygon))
-refused version command.Two asks = absurd asks
-refused version (command.Polygon ring) asks = absurd asks
-refused version (command.Pair i j) asks = record {
-  is_reply = refl;
-  suits = tt;
-  state = refl;
-  prepared = record { told = λ told. absurd told; refused = λ _. refl };
-}
-refused version command.Sights asks = record { is_reply = refl; suits = tt; state = refl; prepared = record { told = λ told. absurd told; refused = λ _. refl } }
-refused version _ asks = record { is_reply = refl; suits = tt; state = refl; prepared = refl }
 
 -- what changes nothing is answered so
 pub plain : (version : Version) (held : HeldRing) (asked : Command) (answered : Reply) → IsPlain asked → IsReplyIn version (kept_in held) asked answered

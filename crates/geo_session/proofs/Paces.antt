@@ -14,6 +14,7 @@ use Rattle.geo_text.specs.declared.command.Bad.TheVariants as bad
 use Rattle.geo_text.specs.declared.command.Command.{Command}
 use Rattle.geo_text.specs.declared.command.Command.TheVariants as command
 use Rattle.geo_text.specs.declared.version.Version.{Version}
+use Rattle.geo_text.specs.declared.version.Version.TheVariants as version
 use Rattle.geo_reply.proofs.Fronts.{err_since, no_more, ok_since}
 use Rattle.geo_reply.specs.ReplyText.{reply_text}
 use Rattle.geo_reply.specs.Written.{WritesSteps, refused_steps}
@@ -43,6 +44,11 @@ digits_and_four n some =
 room_for_four : (n b : ℕ) → 3 ≤ n → n * (2 * (b + 1) + 143) + 4 ≤ n * (2 * b + 147)
 room_for_four n b some = omega (arith, some)
 
+-- some more a vertex are enough for a path from the source of the tree
+reach_enough : (version : Version) (n told start done : ℕ) → done ≤ start + (by_version version 3 23 * n + told) → done ≤ start + (by_version version 3 26 * n + told)
+reach_enough version.One n told start done few = few
+reach_enough version.Two n told start done few = omega (arith, few)
+
 -- no steps are few enough
 pub unpaced : (seen : Seen) (asked : Command) (steps : ℕ) → IsPaced seen asked steps steps
 unpaced seen asked steps = no_more steps _
@@ -55,6 +61,11 @@ module _ (version : Version) (held : HeldRing) (start done : ℕ) where
   pub tree_paced : (s : Point) (found : ℕ) → found ≤ start + 3 * (length held.ring.corners - 2) → let n = length held.ring.corners in
       let b = binary_digits n in done ≤ found + 200 * n * (b * b) → IsPaced (seen_of version (Some held)) (command.Tree s) start done
   tree_paced s found few more = rw (size_held held) (omega (arith, few, more))
+
+  -- the path from the source of the tree is told
+  pub reach_paced : (t : Point) → let n = length held.ring.corners in let b = binary_digits n in
+      done ≤ start + (by_version version 3 23 * n + 24 * (b * b)) → IsPaced (seen_of version (Some held)) (command.Reach t) start done
+  reach_paced t few = rw (size_held held) (reach_enough version _ _ start done few)
 
   -- where the table is there, telling the path takes few steps,
   pub pair_paced : (i j : ℤ) → held.prepared ≡ true → done ≤ start + by_version version 0 20 * length held.ring.corners

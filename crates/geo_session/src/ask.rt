@@ -1,5 +1,5 @@
 // What a command is answered, and what changes once that is written.
-ghost use Rattle.std.specs.Prelude.{◌≡◌, ◌+◌, ◌≤◌, IfOk, Option, Some, length};
+ghost use Rattle.std.specs.Prelude.{◌≡◌, ◌+◌, ◌≤◌, IfOk, None, Option, Some, length};
 ghost use Rattle.plane.specs.declared.limits.TheConstants.{MAX_CORNERS};
 ghost use Rattle.geo_text.specs.Reading.{IsWellSized};
 ghost use Rattle.geo_text.specs.Version.{version_of};
@@ -52,26 +52,41 @@ pub(crate) fn ask<L: Ledger>(
     ensures asked { IfOk result (IsAskedOf version held.now command) }
     ensures paced { IsPaced (seen_of version held.now) command steps.old steps.new }
 {
-    match (held, command) {
-        (_, Command::Two) => Ok(begun()),
-        (_, Command::Polygon(points)) => ask_polygon(alloc, points, steps),
-        (None, _) => Ok(unchanged(Reply::Refused(Bad::NoPolygon))),
-        (Some(held), Command::Tree(s)) => held.tree(alloc, &s, steps),
-        (Some(held), Command::Pair(i, j)) => held.pair(alloc, version, i, j, steps),
-        (Some(held), Command::Sights) => held.sights(alloc, steps),
-        (Some(held), Command::Inside(p)) => Ok(unchanged(Reply::Place(held.place(&p, steps)))),
-        (Some(held), Command::Check(points)) => told(held.judge(alloc, points.as_slice(), steps)),
-        (Some(held), Command::Path(s, t)) => told(path_reply(held.path(
-            alloc, version, &s, &t, steps,
-        ))),
-        (Some(held), Command::Reach(t)) => told(path_reply(held.reach(alloc, version, &t, steps))),
-        (Some(held), Command::See(q)) => told(held.view(alloc, &q, steps)),
-        (Some(held), Command::Kernel) => told(held.kernel(alloc, steps)),
-        (Some(held), Command::Hull(points)) => {
-            told(held.hull(alloc, version, points.as_slice(), steps))
-        }
-        (Some(held), Command::Round(points)) => told(held.round(alloc, points.as_slice(), steps)),
-        (Some(held), Command::Guards) => told(held.guards(alloc, steps)),
+    let Some(held) = held else {
+        return ask_without(alloc, command, steps);
+    };
+    match command {
+        Command::Two => Ok(begun()),
+        Command::Polygon(points) => ask_polygon(alloc, points, steps),
+        Command::Tree(s) => held.tree(alloc, &s, steps),
+        Command::Pair(i, j) => held.pair(alloc, version, i, j, steps),
+        Command::Sights => held.sights(alloc, steps),
+        Command::Inside(p) => Ok(unchanged(Reply::Place(held.place(&p, steps)))),
+        Command::Check(points) => told(held.judge(alloc, points.as_slice(), steps)),
+        Command::Path(s, t) => told(path_reply(held.path(alloc, version, &s, &t, steps))),
+        Command::Reach(t) => told(path_reply(held.reach(alloc, version, &t, steps))),
+        Command::See(q) => told(held.view(alloc, &q, steps)),
+        Command::Kernel => told(held.kernel(alloc, steps)),
+        Command::Hull(points) => told(held.hull(alloc, version, points.as_slice(), steps)),
+        Command::Round(points) => told(held.round(alloc, points.as_slice(), steps)),
+        Command::Guards => told(held.guards(alloc, steps)),
+    }
+}
+
+// What a command is answered where no polygon is held.
+fn ask_without<L: Ledger>(
+    alloc: Global,
+    command: Command,
+    steps: &mut Steps<L>,
+) -> Result<Asked, Memory>
+    requires { IsWellSized command }
+    ensures asked { IfOk result (λ asked. (version : Version) → IsAskedOf version None command asked) }
+    ensures paced { (version : Version) → IsPaced (seen_of version None) command steps.old steps.new }
+{
+    match command {
+        Command::Two => Ok(begun()),
+        Command::Polygon(points) => ask_polygon(alloc, points, steps),
+        _other => Ok(unchanged(Reply::Refused(Bad::NoPolygon))),
     }
 }
 

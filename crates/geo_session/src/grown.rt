@@ -90,8 +90,9 @@ impl Grown {
         let _ring_is_simple = ring.len();
         match self.tree.parent(ring.given_index(i)) {
             Some(Spot::Corner(c)) => Before::Vertex(ring.given_index(c)),
-            // The start, since no path goes on past its goal.
-            Some(_) => Before::Source,
+            Some(Spot::Start) => Before::Source,
+            // This never comes, since no path goes on past its goal.
+            Some(Spot::Goal) => Before::Source,
             None => Before::Nothing,
         }
     }

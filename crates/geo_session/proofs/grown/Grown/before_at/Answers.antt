@@ -30,10 +30,10 @@ returns-in-Some-Start c =
     (start_given ring c.args.self.now.source c.args.i c.requires.vertex c.parent.result
     (rw c.given_index.ensures.number at c.parent.ensures _ _ _ c.requires.grown.1.tree) (c.in-Some-Start.is ∙ ap Some c.in-Some-Start.field-0-is))
 
-pub unreachable-requires : goal.unreachable-requires
-unreachable-requires c =
-    goal_not_given c.args.ring.now c.args.self.now.source c.args.i c.requires.vertex c.parent.result
-    (rw c.given_index.ensures.number at c.parent.ensures _ _ _ c.requires.grown.1.tree) (c.in-Some-Goal.is ∙ ap Some c.in-Some-Goal.field-0-is)
+pub returns-in-Some-Goal : goal.returns-in-Some-Goal
+returns-in-Some-Goal c =
+    absurd (goal_not_given c.args.ring.now c.args.self.now.source c.args.i c.requires.vertex c.parent.result
+    (rw c.given_index.ensures.number at c.parent.ensures _ _ _ c.requires.grown.1.tree) (c.in-Some-Goal.is ∙ ap Some c.in-Some-Goal.field-0-is))
 
 pub returns-in-None : goal.returns-in-None
 returns-in-None c =

@@ -52,8 +52,8 @@ returns-in-One-clause-answer g c =
       told = refl;
     }))
 
-pub returns-in-Two-clause-answer : goal.returns-in-Two-clause-answer
-returns-in-Two-clause-answer g c =
+pub returns-clause-answer : goal.returns-clause-answer
+returns-clause-answer g c =
     let ring = c.args.self.now.ring in
     let first = rw c.in-Ok.is at c.find.ensures.found in
     let second = rw c.in-Ok-find.is at c.find-2.ensures.found in
