@@ -56,5 +56,5 @@ module _ (state : State) (ring : List Point) (s t s' t' : Point) (found : Result
   is_answered start goal = by_found found refl
     where
       by_found : (it : Result (Vec Point Global) Bad) → found ≡ it → IsOk it
-      by_found (Ok points) is = tt
+      by_found (Ok points) is = refl
       by_found (Err fault) is = absurd (never_refuses fault start goal is)
