@@ -3,5 +3,5 @@ use Rattle.inside_test.proofs.edge_meetings.meets_one_end.Goals as goal
 
 pub returns-clause-encloses : goal.returns-clause-encloses
 returns-clause-encloses g c =
-    encloses_one_end c.args.a.now c.args.b.now c.args.c.now c.args.d.now c.turns_to.result c.turns_to-2.result c.turns_to.ensures.turns
-    c.turns_to-2.ensures.turns
+    encloses_one_end c.args.a.now c.args.b.now c.args.c.now c.args.d.now c.turns.result c.turns-2.result c.turns.ensures.turns
+    c.turns-2.ensures.turns
